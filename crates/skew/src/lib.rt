@@ -1,0 +1,19 @@
+// Skew polynomials over a kind of field. Coefficients stand lowest first.
+ghost use mathlib.Core.Path.{_≡_};
+ghost use Rattle.skew.specs.Values.{value-code, eval-code};
+use fields::Kind;
+
+// The value of the polynomial f at a locator with a parameter: the sum over i of f_i × (locator twisted i times) ×
+// N(i, parameter), counted from 0. `steps` says the same by the recursion that proofs use.
+pub fn value<K: Kind>(kind: &K, f: &[u8], parameter: u8, locator: u8) -> u8
+    ensures sum { λ r. let m = meaning (now (kind .entry)) in ⌜ r ≡ value-code m (now (f .entry)) parameter locator ⌝ }
+    ensures steps { λ r. let m = meaning (now (kind .entry)) in ⌜ r ≡ eval-code m (now (f .entry)) parameter locator ⌝ }
+{
+    let mut total = 0;
+    let mut x = locator;
+    for c in f {
+        total = kind.sum(total, kind.product(*c, x));
+        x = kind.product(kind.twist(x), parameter);
+    }
+    total
+}
