@@ -1,4 +1,4 @@
--- The elements of a lawful kind are a field with an automorphism, and what a kind answers, told in elements. Assumes nothing.
+-- The elements of a lawful kind are a field with an automorphism, and what a kind answers, told in elements.
 use mathlib.Core.Path.{_≡_, refl, sym, ap, _∙_, subst}
 use mathlib.Core.List.{List, [], _∷_, map}
 use lib.ListN.{length, getD}
@@ -122,6 +122,16 @@ module _ {m : Meaning} (l : Laws m) where
 
   pub untwist-counts : {r : ℕ} (a : ℕ) → r ≡ m .untwist (clip m a) → clip m r ≡ r
   untwist-counts {r} a e = counts r (subst (λ x. Code m x) (sym e) (l .untwist-code (clip m a) (clip-code a)))
+
+  -- Sums and products of codes, told in elements; and codes are equal where their elements are.
+  pub sum-elem : (a b : ℕ) → Code m a → Code m b → elem m (m .sum a b) ≡ ops m .add (elem m a) (elem m b)
+  sum-elem a b ha hb = sums m a b (sym (ap (λ x. m .sum x (clip m b)) (counts a ha) ∙ ap (m .sum a) (counts b hb)))
+
+  pub product-elem : (a b : ℕ) → Code m a → Code m b → elem m (m .product a b) ≡ ops m .mul (elem m a) (elem m b)
+  product-elem a b ha hb = multiplies m a b (sym (ap (λ x. m .product x (clip m b)) (counts a ha) ∙ ap (m .product a) (counts b hb)))
+
+  pub same-elem : (a b : ℕ) → Code m a → Code m b → elem m a ≡ elem m b → a ≡ b
+  same-elem a b ha hb e = code-elem m a (counts a ha) ∙ ap (λ (x : Elem m). x .code) e ∙ sym (code-elem m b (counts b hb))
 
   pub zero-counts : clip m 0 ≡ 0
   zero-counts = counts 0 zero-code

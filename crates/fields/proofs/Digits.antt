@@ -14,10 +14,6 @@ use Rattle.fields.proofs.Basics
 use Rattle.fields.proofs.Rows
 
 module _ {m : Meaning} (l : Laws m) where
-  -- A code is the code of its element.
-  code-of : (a : ℕ) → Code m a → elem m a .code ≡ a
-  code-of a h = sym (Carrier.code-elem m a (Carrier.counts l a h))
-
   -- A combination of codes is a code, and its element the combination of their elements.
   combined-code : (ds bs : List ℕ) → All (Code m) ds → All (Code m) bs → Code m (combined m ds bs)
   combined-code [] bs p q = Carrier.zero-code l
@@ -28,12 +24,8 @@ module _ {m : Meaning} (l : Laws m) where
   combined-elem [] bs p q = Carrier.zero-is m
   combined-elem (d ∷ ds) [] p q = Carrier.zero-is m
   combined-elem (d ∷ ds) (b ∷ bs) p q =
-      let cp = Carrier.counts l (m .product d b) (l .product-code d b (p .0) (q .0)) in
-      let cs = Carrier.counts l (combined m ds bs) (combined-code ds bs (p .1) (q .1)) in
-      let cd = Carrier.counts l d (p .0) in
-      let cb = Carrier.counts l b (q .0) in
-      Carrier.sums m (m .product d b) (combined m ds bs) (sym (ap (λ x. m .sum x (clip m (combined m ds bs))) cp ∙ ap (m .sum (m .product d b)) cs))
-      ∙ ap (λ x. ops m .add x (elem m (combined m ds bs))) (Carrier.multiplies m d b (sym (ap (λ x. m .product x (clip m b)) cd ∙ ap (m .product d) cb)))
+      Carrier.sum-elem l (m .product d b) (combined m ds bs) (l .product-code d b (p .0) (q .0)) (combined-code ds bs (p .1) (q .1))
+      ∙ ap (λ x. ops m .add x (elem m (combined m ds bs))) (Carrier.product-elem l d b (p .0) (q .0))
       ∙ ap (ops m .add (ops m .mul (elem m d) (elem m b))) (combined-elem ds bs (p .1) (q .1))
 
   -- Fixed codes are the codes of fixed elements.

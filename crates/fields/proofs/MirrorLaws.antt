@@ -1,5 +1,5 @@
 -- The mirror of a lawful kind is lawful.
-use mathlib.Core.Path.{_≡_, refl, sym, ap, _∙_}
+use mathlib.Core.Path.{_≡_, sym, ap, _∙_}
 use mathlib.Core.Bool.{cond}
 use mathlib.Core.List.{List, [], _∷_}
 use Prim.Native.Nat.{ℕ, _+_, _-_, _<_}
@@ -7,7 +7,7 @@ use native.Mathlib.Omega.{arith}
 use lib.Dec.{ltb}
 use Rattle.std.proofs.shelf.Tests.{cond-both, ltb-true}
 use Rattle.fields.specs.Lists.{All}
-use Rattle.fields.specs.Meaning.{Meaning, Laws, Code, Fixed, combined}
+use Rattle.fields.specs.Meaning.{Meaning, Laws, Code, Fixed}
 use Rattle.fields.specs.Mirror.{mirrored, across}
 
 -- A byte stays a byte when it crosses 128.
@@ -30,7 +30,7 @@ module _ (m : Meaning) (l : Laws m) where
       let e : m .twist (m .product (m .untwist a) (m .untwist b)) ≡ m .product a b = l .twist-product (m .untwist a) (m .untwist b) ua ub ∙ ap (λ x. m .product x (m .twist (m .untwist b))) (l .twist-untwist a ha) ∙ ap (λ x. m .product a x) (l .twist-untwist b hb) in
       ap (m .untwist) (sym e) ∙ l .untwist-twist (m .product (m .untwist a) (m .untwist b)) (l .product-code (m .untwist a) (m .untwist b) ua ub)
 
-  -- The mirror has the same fixed elements, and combines in the same way.
+  -- The mirror has the same fixed elements.
   fixed-there : (d : ℕ) → Fixed m d → Fixed (mirrored m) d
   fixed-there d f = (f .0, ap (m .untwist) (sym (f .1)) ∙ l .untwist-twist d (f .0))
 
@@ -44,11 +44,6 @@ module _ (m : Meaning) (l : Laws m) where
   all-back : (ds : List ℕ) → All (Fixed (mirrored m)) ds → All (Fixed m) ds
   all-back [] f = f
   all-back (d ∷ ds) f = (fixed-back d (f .0), all-back ds (f .1))
-
-  combined-same : (ds bs : List ℕ) → combined (mirrored m) ds bs ≡ combined m ds bs
-  combined-same [] bs = refl
-  combined-same (d ∷ ds) [] = refl
-  combined-same (d ∷ ds) (b ∷ bs) = ap (m .sum (m .product d b)) (combined-same ds bs)
 
   pub mirror-laws : Laws (mirrored m)
   mirror-laws = record {
@@ -80,6 +75,6 @@ module _ (m : Meaning) (l : Laws m) where
     basis-codes = l .basis-codes;
     digits-length = l .digits-length;
     digits-fixed = λ a h. all-there (m .digits a) (l .digits-fixed a h);
-    digits-give = λ a h. combined-same (m .digits a) (m .basis) ∙ l .digits-give a h;
-    digits-only = λ a ds h n f e. l .digits-only a ds h n (all-back ds f) (sym (combined-same ds (m .basis)) ∙ e);
+    digits-give = l .digits-give;
+    digits-only = λ a ds h n f e. l .digits-only a ds h n (all-back ds f) e;
   }

@@ -8,7 +8,7 @@ use lib.Dec.{T, eqb, eqb→eq, lit<, lit≤}
 use lib.ListN.{length}
 use Rattle.fields.specs.Lists.{All}
 use Rattle.fields.specs.Meaning.{Meaning, Laws, Code, Fixed, combined}
-use Rattle.fields.specs.Mod13.{mod13}
+use Rattle.fields.specs.Shipped.{mod13}
 use Rattle.fields.proofs.Range.{at, at2, at3, unless0, from0}
 
 abbrev S : ℕ → ℕ → ℕ

@@ -1,6 +1,7 @@
 pub mod Lists
 pub mod Meaning
 pub mod Mirror
-pub mod Mod13
+pub mod Residues
+pub mod Shipped
 pub mod Field
 pub mod Elements

@@ -6,7 +6,7 @@
 --   inverted m a    the inverse of a, absent where a counts as 0
 --   basis-at m j    the basis element b_j for j from 1 to m, else 0
 --   Fixed m d       d is a code that twist leaves as it is
---   combined m ds bs     the sum of the products d × b, place by place
+--   combined m ds bs     the sum of the products d × b, place by place, with the sum and product of the kind
 --   digit-row m a   the m digits of a, and zeros after them: eight numbers
 --   Laws m          what a kind has to keep
 use mathlib.Core.Path.{_≡_}
@@ -32,6 +32,12 @@ pub record Meaning : Type 0 where
   pub basis : List ℕ
   pub digits : ℕ → List ℕ
 
+-- The sum of the products d × b, place by place.
+abbrev pub combination : (ℕ → ℕ → ℕ) → (ℕ → ℕ → ℕ) → List ℕ → List ℕ → ℕ
+combination sum product [] bs = 0
+combination sum product (d ∷ ds) [] = 0
+combination sum product (d ∷ ds) (b ∷ bs) = sum (product d b) (combination sum product ds bs)
+
 module _ (m : Meaning) where
   abbrev pub Code : ℕ → Type 0
   Code a = a < m .size
@@ -49,9 +55,7 @@ module _ (m : Meaning) where
   Fixed d = Code d × (m .twist d ≡ d)
 
   abbrev pub combined : List ℕ → List ℕ → ℕ
-  combined [] bs = 0
-  combined (d ∷ ds) [] = 0
-  combined (d ∷ ds) (b ∷ bs) = m .sum (m .product d b) (combined ds bs)
+  combined = combination (m .sum) (m .product)
 
   abbrev pub digit-row : ℕ → List ℕ
   digit-row a = m .digits (clip a) ++ replicate (8 - m .width) 0

@@ -2,7 +2,7 @@
 ghost use mathlib.Core.Path.{_≡_};
 ghost use Prim.Native.Nat.{ℕ, _<_, _%_};
 ghost use Rattle.fields.specs.Meaning.{clip};
-ghost use Rattle.fields.specs.Mod13.{mod13};
+ghost use Rattle.fields.specs.Shipped.{mod13};
 use super::Kind;
 
 #[derive(Clone, Copy)]
