@@ -2,17 +2,17 @@
 -- nothing. `Rounds` has the glossary.
 use mathlib.Core.Path.{_≡_, refl, sym, ap, ap₂, _∙_, subst}
 use mathlib.Core.Bool.{cond}
-use Prim.Native.Nat.{ℕ, zero, suc, _+_, _*_, _/_, _%_, _^_, _<_}
+use Prim.Native.Nat.{ℕ, zero, suc, _+_, _-_, _*_, _/_, _%_, _^_, _<_}
 use native.Mathlib.Nat.{pow-suc, mod-lt, div-lt-iff-lt-mul}
 use native.Mathlib.Omega.{arith}
 use lib.Arith.{lt-one}
 use lib.Bits.{bitXor, differ, xor-step}
 use lib.Dec.{eqb, eqb→eq, lit<}
-use Rattle.fields.specs.Residues.{coefficients, code, plus, Modulus, degree, sum}
+use Rattle.fields.specs.Residues.{coefficients, code, plus, scale, Modulus, degree, polynomial, sum, opposite, raised}
 use Rattle.fields.specs.Shipped.{modulus256}
 use Rattle.fields.proofs.Range.{at}
 use Rattle.fields.proofs.Rings.{scale-zero, scale-one, code-zeros, code-coefficients, polynomial-reduced}
-use Rattle.fields.proofs.Rounds.{scaled, raised, rounds, scaled-code, rounds-code, rounds-more}
+use Rattle.fields.proofs.Rounds.{scaled, rounds, scaled-code, rounds-code, rounds-more}
 
 -- The sum of two bits modulo 2 says whether they differ.
 bits-differ : (x y : ℕ) → x < 2 → y < 2 → (x + y) % 2 ≡ differ x y
@@ -47,6 +47,13 @@ module _ (q : Modulus) (two : q .base ≡ 2) where
   -- A code below base ^ degree is below 2 ^ degree, and the other way round.
   size : (P : ℕ → Type 0) → P (q .base ^ degree q) → P (2 ^ degree q)
   size P = subst (λ p. P (p ^ degree q)) two
+
+  -- Every code is its own opposite.
+  pub opposite-same : (a : ℕ) → a < 2 ^ degree q → opposite q a ≡ a
+  unfolding opposite
+  opposite-same a h =
+      ap (λ p. code (q .base) (scale (q .base) (p - 1) (polynomial q a))) two ∙ ap (code (q .base)) (scale-one (q .base) (polynomial-reduced q pos a))
+      ∙ code-coefficients (q .base) pos (degree q) a (subst (λ p. a < p ^ degree q) (sym two) h)
 
   -- A bit times x is x or nothing.
   scaled-bit : (c x : ℕ) → c < 2 → x < 2 ^ degree q → scaled q c x ≡ cond (eqb c 1) x 0

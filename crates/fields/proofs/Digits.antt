@@ -15,7 +15,7 @@ use Rattle.fields.proofs.Rows
 
 module _ {m : Meaning} (l : Laws m) where
   -- A combination of codes is a code, and its element the combination of their elements.
-  combined-code : (ds bs : List ℕ) → All (Code m) ds → All (Code m) bs → Code m (combined m ds bs)
+  pub combined-code : (ds bs : List ℕ) → All (Code m) ds → All (Code m) bs → Code m (combined m ds bs)
   combined-code [] bs p q = Carrier.zero-code l
   combined-code (d ∷ ds) [] p q = Carrier.zero-code l
   combined-code (d ∷ ds) (b ∷ bs) p q = l .sum-code _ _ (l .product-code d b (p .0) (q .0)) (combined-code ds bs (p .1) (q .1))

@@ -1,6 +1,7 @@
 pub mod Range
 pub mod Basics
 pub mod Rows
+pub mod Traces
 pub mod Carrier
 pub mod Digits
 pub mod Rings
@@ -11,4 +12,15 @@ pub mod MirrorLaws
 pub mod Frobenius
 pub mod DigitTests
 pub mod ResidueKinds
+pub mod TraceDigits
+pub mod Generators
+pub mod Tables16
+pub mod Tables256
 pub mod ShippedLaws
+pub mod BitLoops
+pub mod Additive
+pub mod CodeTraces
+pub mod BitAnswers
+pub mod TableAnswers
+pub mod PowerLoops
+pub mod TernaryAnswers

@@ -19,17 +19,17 @@ use Rattle.fields.proofs.Carrier
 use Rattle.fields.proofs.Frobenius
 
 -- How many codes there are.
-abbrev size : Modulus → ℕ
+abbrev pub size : Modulus → ℕ
 size q = q .base ^ degree q
 
 module _ (q : Modulus) (r : Ring q (size q)) where
   -- The first power.
-  power-once : (a : ℕ) → a < size q → power q 1 a ≡ a
+  pub power-once : (a : ℕ) → a < size q → power q 1 a ≡ a
   unfolding power
   power-once a h = r .product-one a h
 
   -- The next power.
-  power-next : (n a : ℕ) → power q (suc n) a ≡ product q a (power q n a)
+  pub power-next : (n a : ℕ) → power q (suc n) a ≡ product q a (power q n a)
   unfolding power
   power-next n a = refl
 
@@ -41,7 +41,7 @@ module _ (q : Modulus) (r : Ring q (size q)) where
       ap (product q (power q n a)) (power-mul m n a h) ∙ power-add q (size q) r n (n * m) a h ∙ ap (λ k. power q k a) (add-comm n (n * m) ∙ sym (mul-suc n m))
 
   -- 0 stays 0.
-  power-zero : (n : ℕ) → 0 < n → power q n 0 ≡ 0
+  pub power-zero : (n : ℕ) → 0 < n → power q n 0 ≡ 0
   unfolding power
   power-zero zero h = absurd (omega arith)
   power-zero (suc n) h =
@@ -113,7 +113,7 @@ module _ (q : Modulus) (r : Ring q (size q)) where
       }
 
     -- The field alone: the first power for its twist, and one digit.
-    abbrev plain : Meaning
+    abbrev pub plain : Meaning
     plain = residues q 0 1 1 (1 ∷ []) (λ a. a ∷ [])
 
     one-digit : (a : ℕ) → a < size q → combined plain (a ∷ []) (1 ∷ []) ≡ a
@@ -128,7 +128,7 @@ module _ (q : Modulus) (r : Ring q (size q)) where
         only a (d ∷ c ∷ ds) h n f e = absurd (omega arith)
 
     module _ (small : size q ≤ 256) where
-      plain-laws : Laws plain
+      pub plain-laws : Laws plain
       plain-laws =
           residue-laws 0 1 1 (1 ∷ []) (λ a. a ∷ []) small (lit< tt) (lit≤ tt) (lit≤ tt)
           (λ a b ha hb. power-once (sum q a b) (r .sum-code a b ha hb) ∙ sym (ap₂ (sum q) (power-once a ha) (power-once b hb)))

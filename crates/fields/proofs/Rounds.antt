@@ -1,18 +1,14 @@
 -- The product of codes, one digit of the second factor at a time: what a loop that scales, adds and raises computes.
 --
 --   scaled q c a     the constant c times a
---   raised q a       z times a
 --   rounds q k x y   x times the polynomial of y's k lowest digits: what k more rounds add
 use mathlib.Core.Path.{_≡_, refl, sym, ap, ap₂, _∙_}
 use Prim.Native.Nat.{ℕ, suc, _/_, _%_, _^_, _<_}
-use Rattle.fields.specs.Residues.{coefficients, code, plus, scale, Modulus, degree, raise, times, polynomial, sum, product}
+use Rattle.fields.specs.Residues.{coefficients, code, plus, scale, Modulus, degree, raise, times, polynomial, sum, raised, product}
 use Rattle.fields.proofs.Rings.{code-below, coefficients-code, code-zeros, polynomial-reduced, scale-proper, raise-reduced, times-reduced, times-raise-left}
 
 unfoldable pub scaled : Modulus → ℕ → ℕ → ℕ
 scaled q c a = code (q .base) (scale (q .base) c (polynomial q a))
-
-unfoldable pub raised : Modulus → ℕ → ℕ
-raised q a = code (q .base) (raise q (polynomial q a))
 
 unfoldable pub rounds : Modulus → ℕ → ℕ → ℕ → ℕ
 rounds q k x y = code (q .base) (times q (polynomial q x) (coefficients (q .base) k y))

@@ -5,3 +5,5 @@ pub mod Residues
 pub mod Shipped
 pub mod Field
 pub mod Elements
+pub mod Additive
+pub mod Ternary

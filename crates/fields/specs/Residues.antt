@@ -5,7 +5,7 @@
 --   plus, scale          sum, and product with a constant, coefficient by coefficient modulo p
 --   raise q f            z times f, modulo q
 --   times q f g          f times g, modulo q
---   sum, opposite, product, power     the same on codes
+--   sum, opposite, raised, product, power     the same on codes
 --   trace, traces        sums of repeated powers: digits over a subfield
 --   residues             a kind of field made of these
 use mathlib.Core.List.{List, [], _∷_, map}
@@ -65,6 +65,10 @@ module _ (q : Modulus) where
 
   unfoldable pub opposite : ℕ → ℕ
   opposite a = code (q .base) (scale (q .base) (q .base - 1) (polynomial a))
+
+  -- z times a.
+  unfoldable pub raised : ℕ → ℕ
+  raised a = code (q .base) (raise (polynomial a))
 
   unfoldable pub product : ℕ → ℕ → ℕ
   product a b = code (q .base) (times (polynomial a) (polynomial b))

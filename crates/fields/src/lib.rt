@@ -9,13 +9,23 @@ ghost use Rattle.fields.specs.Meaning.{basis-at, digit-row};
 ghost use Rattle.fields.specs.Elements.{reciprocal-of, Digits-linear, ops, basis-of, digits-of};
 ghost use Rattle.fields.specs.Field as field;
 
+pub mod bits;
 pub mod integers;
 pub mod mirrors;
+pub mod tables;
+pub mod ternary;
+mod trits;
 
+pub use bits::Gf256;
+pub use bits::Gf256Kind;
 pub use integers::Mod13;
 pub use integers::Mod13Kind;
 pub use mirrors::Mirror;
 pub use mirrors::MirrorKind;
+pub use tables::Gf16;
+pub use tables::Gf16Kind;
+pub use ternary::Gf81;
+pub use ternary::Gf81Kind;
 
 pub trait Kind {
     ghost meaning: { Self → Meaning };

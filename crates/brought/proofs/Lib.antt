@@ -1,0 +1,3 @@
+pub mod Doubled
+pub mod Laws
+pub mod Calls
