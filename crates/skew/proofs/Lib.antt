@@ -1,2 +1,10 @@
 pub mod Values
 pub mod Valuing
+pub mod Everywhere
+pub mod Evaluation
+pub mod RootCount
+pub mod Sums
+pub mod Multiplication
+pub mod Filling
+pub mod Combining
+pub mod Adding

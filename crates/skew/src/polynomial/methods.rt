@@ -1,0 +1,55 @@
+// What is done with the coefficients of a polynomial.
+ghost use mathlib.Core.Path.{_≡_};
+ghost use mathlib.Core.List.{[], _∷_, _++_};
+ghost use lib.ListN.{length, getD, set, take};
+ghost use Rattle.skew.specs.Polynomials.{coefficients};
+use super::Polynomial;
+
+impl Polynomial {
+    pub fn empty() -> Polynomial
+        ensures { λ r. ⌜ coefficients r ≡ [] ⌝ }
+    {
+        Polynomial {
+            cells: [0; 48],
+            len: 0,
+        }
+    }
+
+    pub fn len(&self) -> usize
+        ensures { λ r. ⌜ r ≡ length (coefficients (now (self .entry))) ⌝ }
+    {
+        self.len
+    }
+
+    // Coefficient i, and 0 past the end.
+    pub fn get(&self, i: usize) -> u8
+        ensures { λ r. ⌜ r ≡ getD (coefficients (now (self .entry))) i 0 ⌝ }
+    {
+        if i < self.len { self.cells[i] } else { 0 }
+    }
+
+    pub fn as_slice(&self) -> &[u8]
+        ensures { λ r. ⌜ now r ≡ coefficients (now (self .entry)) ⌝ }
+    {
+        &self.cells[0..self.len]
+    }
+
+    // One more coefficient; what is past the 48th is cut off.
+    pub fn push(&mut self, x: u8)
+        ensures { λ _. ⌜ coefficients (now (self .exit)) ≡ take 48 (coefficients (now (self .entry)) ++ x ∷ []) ⌝ }
+    {
+        if self.len < 48 {
+            self.cells[self.len] = x;
+            self.len += 1;
+        }
+    }
+
+    // Another coefficient i, where there is one.
+    pub fn put(&mut self, i: usize, x: u8)
+        ensures { λ _. ⌜ coefficients (now (self .exit)) ≡ set (coefficients (now (self .entry))) i x ⌝ }
+    {
+        if i < self.len {
+            self.cells[i] = x;
+        }
+    }
+}
