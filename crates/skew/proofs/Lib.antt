@@ -8,3 +8,5 @@ pub mod Multiplication
 pub mod Filling
 pub mod Combining
 pub mod Adding
+pub mod Vanishing
+pub mod Growing

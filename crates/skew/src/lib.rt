@@ -5,10 +5,15 @@ ghost use Rattle.skew.specs.Values.{value-code, eval-code};
 ghost use Rattle.skew.specs.Roots.{Root-count};
 use fields::Kind;
 
+mod annihilators;
 mod arithmetic;
+pub mod points;
 pub mod polynomial;
 
+pub use annihilators::annihilator;
 pub use arithmetic::product;
+pub use points::Point;
+pub use points::Site;
 pub use polynomial::Polynomial;
 
 // The value of the polynomial f at a locator with a parameter: the sum over i of f_i × (locator twisted i times) ×

@@ -1,0 +1,16 @@
+// Where polynomials are read.
+
+// A parameter and a locator.
+#[derive(Clone, Copy)]
+pub struct Point {
+    pub parameter: u8,
+    pub locator: u8,
+}
+
+// A parameter, a locator, and a second value beside it.
+#[derive(Clone, Copy)]
+pub struct Site {
+    pub parameter: u8,
+    pub locator: u8,
+    pub second: u8,
+}
