@@ -10,3 +10,5 @@ pub mod Combining
 pub mod Adding
 pub mod Vanishing
 pub mod Growing
+pub mod Sharpness
+pub mod Interpolating

@@ -7,11 +7,13 @@ use fields::Kind;
 
 mod annihilators;
 mod arithmetic;
+mod newton;
 pub mod points;
 pub mod polynomial;
 
 pub use annihilators::annihilator;
 pub use arithmetic::product;
+pub use newton::interpolate;
 pub use points::Point;
 pub use points::Site;
 pub use polynomial::Polynomial;
