@@ -50,7 +50,8 @@ module _ {m : Meaning} (l : Laws m) where
   laws : field.Laws (ops m)
   laws = Carrier.ops-laws l
 
-  code-of-zero : ops m .zero .code ≡ 0
+  -- The code of zero.
+  pub code-of-zero : ops m .zero .code ≡ 0
   code-of-zero = sym (Carrier.answers _ (Carrier.zero-counts l) (Carrier.zero-is m))
 
   code-of : (v : ℕ) → elem m v .code ≡ clip m v

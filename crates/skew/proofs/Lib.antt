@@ -12,3 +12,5 @@ pub mod Vanishing
 pub mod Growing
 pub mod Sharpness
 pub mod Interpolating
+pub mod PairSteps
+pub mod Carrying

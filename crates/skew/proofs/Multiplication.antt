@@ -38,7 +38,8 @@ module _ {F : Type 0} {o : Ops F} (l : Laws o) where
       gather : (e : F) → twist x * (twist b * a) + twist e * a ≡ twist (x * b + e) * a
       gather e = simp (ring, twists, l)
 
-  eval-shift : (a : F) (g : List F) (b : F) → eval o a (shift o g) b ≡ step o a (eval o a g b)
+  -- The value of x times g.
+  pub eval-shift : (a : F) (g : List F) (b : F) → eval o a (shift o g) b ≡ step o a (eval o a g b)
   eval-shift a g b = ap (λ w. w + eval o a (map twist g) (step o a b)) (Basics.zero-mul l b) ∙ Basics.zero-add l _ ∙ eval-twisted a g b
 
   -- To apply a product is to apply one factor after the other.

@@ -7,13 +7,18 @@ use fields::Kind;
 
 mod annihilators;
 mod arithmetic;
+mod engine;
 mod newton;
+pub mod pairing;
 pub mod points;
 pub mod polynomial;
 
 pub use annihilators::annihilator;
 pub use arithmetic::product;
+pub use engine::pairs;
 pub use newton::interpolate;
+pub use pairing::Pair;
+pub use pairing::TwoPairs;
 pub use points::Point;
 pub use points::Site;
 pub use polynomial::Polynomial;
