@@ -14,3 +14,5 @@ pub mod Sharpness
 pub mod Interpolating
 pub mod PairSteps
 pub mod Carrying
+pub mod Division
+pub mod Dividing

@@ -133,13 +133,18 @@ module _ {F : Type 0} {o : Ops F} (l : Laws o) where
   total-same u v (suc n) h =
       ap (λ w. w + total o (λ i. u (suc i)) n) (h 0 (omega arith)) ∙ ap (λ w. v 0 + w) (total-same (λ i. u (suc i)) (λ i. v (suc i)) n (λ i k. h (suc i) (omega arith)))
 
+  -- A sum of zeros.
+  pub total-null : (n : ℕ) → total o (λ i. zero) n ≡ zero
+  total-null ℕ.zero = refl
+  total-null (suc n) = Basics.zero-add l _ ∙ total-null n
+
   -- A sum by its last term.
   total-last : (u : ℕ → F) (n : ℕ) → total o u (suc n) ≡ total o u n + u n
   total-last u ℕ.zero = Basics.add-comm l (u 0) zero
   total-last u (suc n) = ap (λ w. u 0 + w) (total-last (λ i. u (suc i)) n) ∙ sym (Basics.add-assoc l (u 0) _ _)
 
   -- A twist before or after others.
-  twisted-twist : (i : ℕ) (x : F) → twisted o i (twist x) ≡ twist (twisted o i x)
+  pub twisted-twist : (i : ℕ) (x : F) → twisted o i (twist x) ≡ twist (twisted o i x)
   twisted-twist ℕ.zero x = refl
   twisted-twist (suc i) x = ap twist (twisted-twist i x)
 
@@ -158,11 +163,7 @@ module _ {F : Type 0} {o : Ops F} (l : Laws o) where
 
   -- The coefficients of a product.
   pub coef-product : (f g : List F) (n : ℕ) → coef o (times o f g) n ≡ coefficient o f g n
-  coef-product [] g n = sym (total-same _ (λ i. zero) (suc n) (λ i k. Basics.zero-mul l (twisted o i (coef o g (n - i)))) ∙ nought (suc n))
-    where
-      nought : (k : ℕ) → total o (λ i. zero) k ≡ zero
-      nought ℕ.zero = refl
-      nought (suc k) = Basics.zero-add l _ ∙ nought k
+  coef-product [] g n = sym (total-same _ (λ i. zero) (suc n) (λ i k. Basics.zero-mul l (twisted o i (coef o g (n - i)))) ∙ total-null (suc n))
   coef-product (c ∷ f) g n =
       coef-times c f g n ∙ ap (λ w. c * coef o g n + w) (coef-product f (shift o g) n ∙ total-last u n ∙ ap (λ w. total o u n + w) end ∙ Basics.add-zero l _ ∙ total-same u v n (shift-term f g n))
       ∙ ap (λ k. c * coef o g k + total o v n) none

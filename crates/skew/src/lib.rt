@@ -12,6 +12,7 @@ mod newton;
 pub mod pairing;
 pub mod points;
 pub mod polynomial;
+mod quotients;
 
 pub use annihilators::annihilator;
 pub use arithmetic::product;
@@ -22,6 +23,7 @@ pub use pairing::TwoPairs;
 pub use points::Point;
 pub use points::Site;
 pub use polynomial::Polynomial;
+pub use quotients::left_quotient;
 
 // The value of the polynomial f at a locator with a parameter: the sum over i of f_i × (locator twisted i times) ×
 // N(i, parameter), counted from 0. `steps` says the same by the recursion that proofs use.

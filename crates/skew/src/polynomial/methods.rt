@@ -2,7 +2,7 @@
 ghost use mathlib.Core.Path.{_≡_};
 ghost use mathlib.Core.List.{[], _∷_, _++_};
 ghost use lib.ListN.{length, getD, set, take};
-ghost use Rattle.skew.specs.Polynomials.{coefficients};
+ghost use Rattle.skew.specs.Polynomials.{coefficients, Resized};
 use super::Polynomial;
 
 impl Polynomial {
@@ -51,5 +51,16 @@ impl Polynomial {
         if i < self.len {
             self.cells[i] = x;
         }
+    }
+
+    // The first n coefficients, with zeros behind where there are fewer; at most 48.
+    pub fn resized(&self, n: usize) -> Polynomial
+        ensures { λ r. ⌜ Resized (coefficients (now (self .entry))) n (coefficients r) ⌝ }
+    {
+        let mut out = Polynomial::empty();
+        for i in 0..n {
+            out.push(self.get(i));
+        }
+        out
     }
 }
