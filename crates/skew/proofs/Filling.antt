@@ -22,6 +22,11 @@ pub pushed : (cells : List ℕ) (n x : ℕ) → length cells ≡ 48 → n < 48 �
 pushed cells n x len h =
     take-more-set cells n x (omega arith) ∙ sym (take-all 48 (take n cells ++ x ∷ []) (omega (arith, length-push (take n cells) x, length-take n cells)))
 
+-- The first i numbers of a list, and one more.
+pub copied : (f : List ℕ) {out out′ : List ℕ} {i : ℕ} → length f ≤ 48 → i < length f → out ≡ take i f → out′ ≡ take 48 (out ++ getD f i 0 ∷ []) → out′ ≡ take (i + 1) f
+copied f {out} {out′} {i} few h e eo =
+    eo ∙ ap (λ z. take 48 (z ++ getD f i 0 ∷ [])) e ∙ ap (take 48) (sym (take-more f i 0 h)) ∙ take-all 48 (take (i + 1) f) (omega (arith, length-take (i + 1) f))
+
 -- Where there is no room nothing changes.
 pub full : (cells : List ℕ) (n x : ℕ) → length cells ≡ 48 → 48 ≤ n → take n cells ≡ take 48 (take n cells ++ x ∷ [])
 full cells n x len h = t ∙ sym (ap (λ ys. take 48 (ys ++ x ∷ [])) t ∙ take-at cells (x ∷ []) 48 len)

@@ -9,9 +9,9 @@ mod annihilators;
 mod arithmetic;
 mod engine;
 mod newton;
-pub mod pairing;
-pub mod points;
-pub mod polynomial;
+mod pairing;
+mod points;
+mod polynomial;
 mod quotients;
 
 pub use annihilators::annihilator;

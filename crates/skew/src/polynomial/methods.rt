@@ -1,7 +1,9 @@
 // What is done with the coefficients of a polynomial.
 ghost use mathlib.Core.Path.{_≡_};
 ghost use mathlib.Core.List.{[], _∷_, _++_};
+ghost use Prim.Native.Nat.{_<_};
 ghost use lib.ListN.{length, getD, set, take};
+ghost use Rattle.std.specs.Options.{Cases};
 ghost use Rattle.skew.specs.Polynomials.{coefficients, Resized};
 use super::Polynomial;
 
@@ -15,10 +17,25 @@ impl Polynomial {
         }
     }
 
+    // The polynomial with these coefficients, the lowest first; nothing for more than 48.
+    pub fn from_slice(source: &[u8]) -> Option<Polynomial>
+        ensures { λ r. let f = now (source .entry) in ⌜ Cases r (48 < length f) (λ p. coefficients p ≡ f) ⌝ }
+    {
+        if source.len() > 48 {
+            return None;
+        }
+        let mut out = Polynomial::empty();
+        for c in source {
+            out.push(*c);
+        }
+        Some(out)
+    }
+
+    // How many coefficients are in use.
     pub fn len(&self) -> usize
         ensures { λ r. ⌜ r ≡ length (coefficients (now (self .entry))) ⌝ }
     {
-        self.len
+        self.as_slice().len()
     }
 
     // Coefficient i, and 0 past the end.
