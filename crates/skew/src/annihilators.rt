@@ -8,6 +8,7 @@ ghost use Rattle.fields.specs.Elements.{elem, elems, codes, ops};
 ghost use Rattle.skew.specs.Polynomials.{coefficients};
 ghost use Rattle.skew.specs.Annihilators.{Annihilated, Root, Grown};
 use super::arithmetic::product;
+use super::points::MOST;
 use super::points::Point;
 use super::polynomial::Polynomial;
 use super::value;
@@ -55,7 +56,7 @@ pub fn grow<K: Kind>(kind: &K, base: &Polynomial, point: Point) -> Option<Polyno
 pub fn annihilator<K: Kind>(kind: &K, points: &[Point]) -> Option<Polynomial>
     ensures { λ r. let m = meaning (now (kind .entry)) in let ps = now (points .entry) in ⌜ Cases r (24 < length ps) (λ f. Annihilated m ps (coefficients f)) ⌝ }
 {
-    if points.len() > 24 {
+    if points.len() > MOST {
         return None;
     }
     let mut out = Polynomial::empty();

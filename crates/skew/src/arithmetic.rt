@@ -5,6 +5,7 @@ ghost use lib.ListN.{length, take};
 ghost use Rattle.std.specs.Options.{Cases};
 ghost use Rattle.fields.specs.Elements.{elems, codes, ops};
 ghost use Rattle.skew.specs.Polynomials.{coefficients, combined, raised, Multiplied};
+use super::polynomial::CAPACITY;
 use super::polynomial::Polynomial;
 use fields::Kind;
 
@@ -52,7 +53,7 @@ pub fn product<K: Kind>(kind: &K, f: &Polynomial, g: &Polynomial) -> Option<Poly
     ensures { λ r. let m = meaning (now (kind .entry)) in let f = coefficients (now (f .entry)) in let g = coefficients (now (g .entry)) in
         ⌜ Cases r (49 < length f + length g) (λ p. Multiplied m f g (coefficients p)) ⌝ }
 {
-    if f.len() + g.len() > 49 {
+    if f.len() + g.len() > CAPACITY + 1 {
         return None;
     }
     let mut sum = Polynomial::empty();

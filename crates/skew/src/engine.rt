@@ -13,6 +13,7 @@ use super::arithmetic::raise;
 use super::pairing::Pair;
 use super::pairing::Turn;
 use super::pairing::TwoPairs;
+use super::points::MOST;
 use super::points::Site;
 use super::polynomial::Polynomial;
 use super::value;
@@ -131,7 +132,7 @@ pub fn pairs<K: Kind>(kind: &K, k: usize, sites: &[Site]) -> Option<TwoPairs>
     ensures { λ r. let m = meaning (now (kind .entry)) in let ps = now (sites .entry) in
         ⌜ Cases r (24 < length ps) (λ s. (length ps ≤ 24) × Carried (ops m) k (spots m ps) (two m (s .first)) (two m (s .second)) (s .a) (s .b)) ⌝ }
 {
-    if sites.len() > 24 {
+    if sites.len() > MOST {
         return None;
     }
     let mut s = start();

@@ -20,8 +20,10 @@ pub use engine::pairs;
 pub use newton::interpolate;
 pub use pairing::Pair;
 pub use pairing::TwoPairs;
+pub use points::MOST;
 pub use points::Point;
 pub use points::Site;
+pub use polynomial::CAPACITY;
 pub use polynomial::Polynomial;
 pub use quotients::left_quotient;
 

@@ -11,6 +11,7 @@ ghost use Rattle.skew.specs.Annihilators.{place};
 ghost use Rattle.skew.specs.Interpolation.{Unlawful, Interpolated, Corrected};
 use super::annihilators::grow;
 use super::arithmetic::combine;
+use super::points::MOST;
 use super::points::Point;
 use super::polynomial::Polynomial;
 use super::value;
@@ -53,7 +54,7 @@ pub fn interpolate<K: Kind>(kind: &K, points: &[Point], values: &[u8]) -> Option
     ensures { λ r. let m = meaning (now (kind .entry)) in let ps = now (points .entry) in let vs = now (values .entry) in
         ⌜ Cases r ((24 < length ps) ⊎ ((length vs ≢ length ps) ⊎ Unlawful m ps)) (λ f. Interpolated m ps vs (coefficients f)) ⌝ }
 {
-    if points.len() > 24 {
+    if points.len() > MOST {
         return None;
     }
     if values.len() != points.len() {

@@ -1,5 +1,8 @@
 // Where polynomials are read.
 
+// More points than these are refused.
+pub const MOST: usize = 24;
+
 // A parameter and a locator.
 #[derive(Clone, Copy)]
 pub struct Point {

@@ -6,6 +6,7 @@ ghost use Rattle.fields.specs.Field.{Zero};
 ghost use Rattle.fields.specs.Elements.{elems, ops};
 ghost use Rattle.skew.specs.Polynomials.{coefficients};
 ghost use Rattle.skew.specs.Quotients.{Divided, Undivided, Leads, Untwisted, Subtracted};
+use super::polynomial::CAPACITY;
 use super::polynomial::Polynomial;
 use fields::Kind;
 use fields::code;
@@ -74,7 +75,7 @@ pub fn left_quotient<K: Kind>(
         return None;
     };
     let d = top.degree;
-    if d.saturating_add(k) > 48 {
+    if d.saturating_add(k) > CAPACITY {
         return None;
     }
     let mut rest = dividend.resized(d + k);

@@ -5,6 +5,7 @@ ghost use Prim.Native.Nat.{_<_};
 ghost use lib.ListN.{length, getD, set, take};
 ghost use Rattle.std.specs.Options.{Cases};
 ghost use Rattle.skew.specs.Polynomials.{coefficients, Resized};
+use super::CAPACITY;
 use super::Polynomial;
 
 impl Polynomial {
@@ -12,7 +13,7 @@ impl Polynomial {
         ensures { λ r. ⌜ coefficients r ≡ [] ⌝ }
     {
         Polynomial {
-            cells: [0; 48],
+            cells: [0; CAPACITY],
             len: 0,
         }
     }
@@ -21,7 +22,7 @@ impl Polynomial {
     pub fn from_slice(source: &[u8]) -> Option<Polynomial>
         ensures { λ r. let f = now (source .entry) in ⌜ Cases r (48 < length f) (λ p. coefficients p ≡ f) ⌝ }
     {
-        if source.len() > 48 {
+        if source.len() > CAPACITY {
             return None;
         }
         let mut out = Polynomial::empty();
@@ -55,7 +56,7 @@ impl Polynomial {
     pub fn push(&mut self, x: u8)
         ensures { λ _. ⌜ coefficients (now (self .exit)) ≡ take 48 (coefficients (now (self .entry)) ++ x ∷ []) ⌝ }
     {
-        if self.len < 48 {
+        if self.len < CAPACITY {
             self.cells[self.len] = x;
             self.len += 1;
         }

@@ -10,7 +10,7 @@ loop-p-again g c =
 
 pub returns-in-Break-out : need.returns-in-Break-out
 returns-in-Break-out g c =
-    absurd (annihilator-room (g .K·Kind·met .lawful (c .args .kind .now)) (c .args .points .now) (c .if-points-gt24 .left) (c .loop-p-test .taken) (c .loop-p .inv) (c .in-Break-out .ensures tt))
+    absurd (annihilator-room (g .K·Kind·met .lawful (c .args .kind .now)) (c .args .points .now) (c .if-points-gt-MOST .left) (c .loop-p-test .taken) (c .loop-p .inv) (c .in-Break-out .ensures tt))
 
 pub returns : need.returns
-returns g c = annihilator-ends (g .K·Kind·met .lawful (c .args .kind .now)) (c .if-points-gt24 .left) (c .loop-p-test .left) (c .loop-p .inv)
+returns g c = annihilator-ends (g .K·Kind·met .lawful (c .args .kind .now)) (c .if-points-gt-MOST .left) (c .loop-p-test .left) (c .loop-p .inv)

@@ -8,12 +8,12 @@ loop-site-holds g c = pairs-start (g .K·Kind·met .lawful (c .args .kind .now))
 
 pub advance-s-requires : need.advance-s-requires
 advance-s-requires g c κs =
-    let few = pairs-few (g .K·Kind·met .lawful (c .args .kind .now)) (c .args .k) (c .args .sites .now) (c .if-sites-gt24 .left) (c .loop-site-test .taken) (c .loop-site .inv) in
+    let few = pairs-few (g .K·Kind·met .lawful (c .args .kind .now)) (c .args .k) (c .args .sites .now) (c .if-sites-gt-MOST .left) (c .loop-site-test .taken) (c .loop-site .inv) in
     (omega arith, omega arith)
 
 pub loop-site-again : need.loop-site-again
 loop-site-again g c =
-    pairs-go-on (g .K·Kind·met .lawful (c .args .kind .now)) (record { parameter = 0; locator = 0; second = 0 }) (c .args .k) (c .args .sites .now) (c .if-sites-gt24 .left) (c .loop-site-test .taken) (c .loop-site .inv) (c .advance-s .ensures)
+    pairs-go-on (g .K·Kind·met .lawful (c .args .kind .now)) (record { parameter = 0; locator = 0; second = 0 }) (c .args .k) (c .args .sites .now) (c .if-sites-gt-MOST .left) (c .loop-site-test .taken) (c .loop-site .inv) (c .advance-s .ensures)
 
 pub returns : need.returns
-returns g c = (c .if-sites-gt24 .left, pairs-end (g .K·Kind·met .lawful (c .args .kind .now)) (c .args .sites .now) (c .loop-site-test .left) (c .loop-site .inv))
+returns g c = (c .if-sites-gt-MOST .left, pairs-end (g .K·Kind·met .lawful (c .args .kind .now)) (c .args .sites .now) (c .loop-site-test .left) (c .loop-site .inv))

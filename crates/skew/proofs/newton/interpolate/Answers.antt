@@ -18,4 +18,4 @@ loop-i-again g c =
 
 pub returns : need.returns
 returns g c =
-    newton-ends (g .K·Kind·met .lawful (c .args .kind .now)) (c .args .points .now) (c .args .values .now) (c .if-points-gt24 .left) (c .if-values-points .left) (c .loop-i-test .left) (search needs) (c .loop-i .inv)
+    newton-ends (g .K·Kind·met .lawful (c .args .kind .now)) (c .args .points .now) (c .args .values .now) (c .if-points-gt-MOST .left) (c .if-values-points .left) (c .loop-i-test .left) (search needs) (c .loop-i .inv)
