@@ -1,9 +1,9 @@
 -- The loop of `product`, over plain numbers.
 --
 --   Adding    after i coefficients of f: the sum so far, and the product of the other coefficients with h, which is g shifted i times
-use mathlib.Core.Path.{_≡_, refl, sym, ap, _∙_, subst}
-use mathlib.Core.Logic.{_⊎_, inl, inr}
-use mathlib.Core.List.{List, [], _∷_, map}
+use mathlib.Core.Path.{_≡_, sym, ap, _∙_, subst}
+use mathlib.Core.Logic.{inl, inr}
+use mathlib.Core.List.{List, [], _∷_}
 use Prim.Native.Nat.{ℕ, suc, _+_, _<_, _≤_, min}
 use native.Mathlib.Omega.{arith}
 use lib.ListN.{length, getD, take, drop, length-map}
@@ -11,7 +11,6 @@ use Rattle.std.proofs.shelf.Lists.{drop-more, drop-all, length-take}
 use Rattle.std.proofs.shelf.Tests.{cases-lt}
 use Rattle.fields.specs.Field.{plus, scale}
 use Rattle.fields.specs.Field as field
-use Rattle.fields.proofs.Basics
 use Rattle.fields.proofs.Basics.{ring}
 use Rattle.fields.proofs.Rows
 use Rattle.fields.specs.Meaning.{Meaning, Laws}
@@ -40,9 +39,11 @@ pub record Adding (m : Meaning) (f g : List ℕ) (i : ℕ) (sum h : List ℕ) : 
   pub size : length h ≡ min 48 (length g + i)
 
 module _ {m : Meaning} (l : Laws m) where
+  -- The laws of the elements.
   laws : field.Laws (ops m)
   laws = Carrier.ops-laws l
 
+  -- Before the first coefficient.
   pub multiply-starts : {f g sum : List ℕ} → length g ≤ 48 → sum ≡ [] → Adding m f g 0 sum g
   multiply-starts {f} {g} {sum} k e = record {
     rest = ap (λ z. plus (ops m) (elems m z) (times (ops m) (elems m f) (elems m g))) e;
@@ -84,6 +85,7 @@ module _ {m : Meaning} (l : Laws m) where
             ap (λ z. times (ops m) z (elems m h′)) e ∙ sym (ap (λ z. times (ops m) z (shift (ops m) (elems m h))) e))
       ]
 
+  -- After the last one the sum is the product.
   pub multiply-ends : {f g sum h : List ℕ} {n i : ℕ} → length f + length g ≤ 49 → n ≡ length f → n ≤ i → Adding m f g i sum h → Multiplied m f g sum
   multiply-ends {f} {g} {sum} {h} {n} {i} room en le a =
       let d : elems m (drop i f) ≡ [] = ap (elems m) (drop-all i f (omega arith)) in

@@ -1,7 +1,7 @@
 -- The steps and the loop of `pairs`, over plain values.
-use mathlib.Core.Path.{_≡_, refl, sym, ap, _∙_, subst}
+use mathlib.Core.Path.{_≡_, sym, ap, _∙_, subst}
 use mathlib.Core.Logic.{_≢_, _⊎_, inl, inr}
-use mathlib.Core.List.{List, [], _∷_, _++_, map}
+use mathlib.Core.List.{List, [], _∷_, _++_}
 use Prim.Native.Nat.{ℕ, suc, _+_, _<_, _≤_, max}
 use native.Mathlib.Omega.{arith}
 use native.Mathlib.Numerals.{add-one}
@@ -30,13 +30,16 @@ use Rattle.skew.proofs.PairSteps.{lifted, lift, cross}
 abbrev both : {F : Type 0} → List F → List F → Two F
 both f g = record { q0 = f; q1 = g }
 
+-- Pairs with the same parts are the same.
 same-two : {F : Type 0} {f f′ g g′ : List F} → f ≡ f′ → g ≡ g′ → both f g ≡ both f′ g′
 same-two {F} {f} {f′} {g} {g′} p q = ap (λ z. both z g) p ∙ ap (both f′) q
 
 module _ {m : Meaning} (l : Laws m) where
+  -- The laws of the elements.
   laws : field.Laws (ops m)
   laws = Carrier.ops-laws l
 
+  -- What `worth` answers is the value of the pair.
   pub worth-is : (q : Pair) (p : Site) {f g : List ℕ} {x y r : ℕ} → f ≡ coefficients (q .q0) → x ≡ value-code m f (p .parameter) (p .locator)
       → g ≡ coefficients (q .q1) → y ≡ value-code m g (p .parameter) (p .second) → r ≡ m .sum (clip m x) (clip m y)
       → r ≡ worth (ops m) (two m q) (spot m p) .code
@@ -59,9 +62,11 @@ module _ {m : Meaning} (l : Laws m) where
   zero-of : {x : ℕ} (v : Elem m) → x ≡ v .code → v ≡ ops m .zero → x ≡ 0
   zero-of v e z = e ∙ ap (λ (w : Elem m). w .code) z ∙ code-of-zero l
 
+  -- And the other way.
   of-zero : {x : ℕ} (v : Elem m) → x ≡ v .code → x ≡ 0 → v ≡ ops m .zero
   of-zero v e z = Carrier.same-code v (ops m .zero) (sym e ∙ z ∙ sym (code-of-zero l))
 
+  -- The same of a choice.
   side : {x : ℕ} {G : Type 0} (v : Elem m) → x ≡ v .code → (x ≡ 0) ⊎ G → (v ≡ ops m .zero) ⊎ G
   side v e (inl z) = inl (of-zero v e z)
   side v e (inr g) = inr g
@@ -73,6 +78,7 @@ module _ {m : Meaning} (l : Laws m) where
       let e′ : r ≡ codes (raised m c g) = e ∙ uncut (raised m c g) (omega arith) in
       (ap (elems m) e′ ∙ Carrier.elems-codes _, ap length e′ ∙ length-map (raised m c g) (λ (x : Elem m). x .code) ∙ n)
 
+  -- A sum of multiples, in elements, and how long it is.
   mixed : (c d : ℕ) (f g : List ℕ) {n : ℕ} {r : List ℕ} → n ≡ m .opposite (clip m d) → r ≡ codes (combined m c f n g)
       → (elems m r ≡ plus (ops m) (scale (ops m) (elem m c) (elems m f)) (scale (ops m) (ops m .neg (elem m d)) (elems m g))) × (length r ≡ max (length f) (length g))
   mixed c d f g {n} {r} en e = (
@@ -87,19 +93,23 @@ module _ {m : Meaning} (l : Laws m) where
       let y = whole (h .c) (coefficients (q .q1)) (omega (arith, s .q1)) (h .q1) in
       (same-two (x .0) (y .0), record { q0 = omega (arith, x .1, s .q0); q1 = omega (arith, y .1, s .q1) })
 
+  -- A crossed pair, and what it makes longer.
   cross-is : {c d n : ℕ} {q p r : Pair} → Crossed m c q d p r → Short n q → Short n p → (two m r ≡ cross (ops m) (elem m c) (two m q) (elem m d) (two m p)) × Short (suc n) r
   cross-is {c} {d} {n} {q} {p} {r} h s t =
       let x = mixed c d (coefficients (q .q0)) (coefficients (p .q0)) (h .opposite) (h .q0) in
       let y = mixed c d (coefficients (q .q1)) (coefficients (p .q1)) (h .opposite) (h .q1) in
       (same-two (x .0) (y .0), record { q0 = omega (arith, x .1, s .q0, t .q0); q1 = omega (arith, y .1, s .q1, t .q1) })
 
+  -- One spot more leaves room for one coefficient more.
   longer : (ps : List (Spot (Elem m))) (p : Spot (Elem m)) (q : Pair) → Short (suc (suc (length ps))) q → Short (suc (length (ps ++ p ∷ []))) q
   longer ps p q s = record { q0 = omega (arith, s .q0, length-append ps (p ∷ [])); q1 = omega (arith, s .q1, length-append ps (p ∷ [])) }
 
+  -- What is short is short by one more.
   one-longer : {n : ℕ} (q : Pair) → Short n q → Short (suc n) q
   one-longer q s = record { q0 = omega (arith, s .q0); q1 = omega (arith, s .q1) }
 
   module _ (k : ℕ) (p : Site) (s : TwoPairs) {x y : ℕ} (ex : x ≡ worth (ops m) (two m (s .first)) (spot m p) .code) (ey : y ≡ worth (ops m) (two m (s .second)) (spot m p) .code) (ps : List (Spot (Elem m))) where
+    -- Both values are 0.
     pub stays : (x ≡ 0) × (y ≡ 0) → Held m k ps s → Held m k (ps ++ spot m p ∷ []) s
     stays e h = record {
       carried = PairSteps.carried-same laws k ps (spot m p) (two m (s .first)) (two m (s .second)) (s .a) (s .b) (h .carried)
@@ -108,6 +118,7 @@ module _ {m : Meaning} (l : Laws m) where
       second = longer ps (spot m p) (s .second) (one-longer (s .second) (h .second));
     }
 
+    -- The first pair is the pivot.
     pub firsts : {q r : Pair} → (x ≢ 0) × ((y ≡ 0) ⊎ (s .a < s .b + k)) → Raised m (p .parameter) x (s .first) q → Crossed m x (s .second) y (s .first) r → length ps < 24 → Held m k ps s
         → Held m k (ps ++ spot m p ∷ []) (record { first = q; second = r; a = s .a + 1; b = s .b })
     firsts {q} {r} t hq hr few h =
@@ -128,6 +139,7 @@ module _ {m : Meaning} (l : Laws m) where
           second = longer ps (spot m p) r (B .1);
         }
 
+    -- The second pair is the pivot.
     pub seconds : {q r : Pair} → (y ≢ 0) × ((x ≡ 0) ⊎ (s .b + k ≤ s .a)) → Crossed m y (s .first) x (s .second) q → Raised m (p .parameter) y (s .second) r → length ps < 24 → Held m k ps s
         → Held m k (ps ++ spot m p ∷ []) (record { first = q; second = r; a = s .a; b = s .b + 1 })
     seconds {q} {r} t hq hr few h =
@@ -148,6 +160,7 @@ module _ {m : Meaning} (l : Laws m) where
           second = longer ps (spot m p) r (B .1);
         }
 
+  -- The pairs (1, 0) and (0, 1) are held before the first site.
   pub pairs-start : (k : ℕ) {s : TwoPairs} → Starts s → Held m k [] s
   pairs-start k {s} e =
       let one : elems m (1 ∷ []) ≡ ops m .one ∷ [] = ap (λ x. x ∷ []) (Carrier.one-is m) in
@@ -163,6 +176,7 @@ module _ {m : Meaning} (l : Laws m) where
         second = record { q0 = omega (arith, ap length (e .B0)); q1 = omega (arith, ap length (e .B1)) };
       }
 
+  -- One site more.
   pub pairs-go-on : (d : Site) (k : ℕ) (ps : List Site) {i : ℕ} {s s′ : TwoPairs} → length ps ≤ 24 → i < length ps → Held m k (spots m (take i ps)) s
       → ((qs : List (Spot (Elem m))) → length qs < 24 → Held m k qs s → Held m k (qs ++ spot m (getD ps i d) ∷ []) s′) → Held m k (spots m (take (i + 1) ps)) s′
   pairs-go-on d k ps {i} {s} {s′} few h a f =
@@ -173,5 +187,6 @@ module _ {m : Meaning} (l : Laws m) where
   pub pairs-few : (k : ℕ) (ps : List Site) {i : ℕ} {s : TwoPairs} → length ps ≤ 24 → i < length ps → Held m k (spots m (take i ps)) s → s .a + s .b ≤ 24
   pairs-few k ps {i} {s} few h a = omega (arith, a .carried .few, length-map {B = Spot (Elem m)} (take i ps) (spot m), length-take-le i ps (omega arith))
 
+  -- After the last site.
   pub pairs-end : (ps : List Site) {k i : ℕ} {s : TwoPairs} → length ps ≤ i → Held m k (spots m (take i ps)) s → Carried (ops m) k (spots m ps) (two m (s .first)) (two m (s .second)) (s .a) (s .b)
   pairs-end ps {k} {i} {s} h a = subst (λ qs. Carried (ops m) k (spots m qs) (two m (s .first)) (two m (s .second)) (s .a) (s .b)) (take-all i ps h) (a .carried)

@@ -6,8 +6,8 @@
 --   Subtracting    after i coefficients of the divisor
 --   Dividing       with j coefficients to go: out has zeros there, and the rest is the dividend less divisor × out, zero from d + j on
 use mathlib.Core.Path.{_≡_, refl, sym, ap, _∙_, subst}
-use mathlib.Core.Logic.{_≢_, _⊎_, inl, inr}
-use mathlib.Core.List.{List, [], _∷_, _++_, map}
+use mathlib.Core.Logic.{_≢_, inl, inr}
+use mathlib.Core.List.{List, [], _∷_, _++_}
 use Prim.Native.Nat.{ℕ, suc, _+_, _-_, _<_, _≤_, min}
 use native.Mathlib.Omega.{arith}
 use native.Mathlib.Decide.{ℕ-discrete}
@@ -15,7 +15,7 @@ use native.Mathlib.Numerals.{add-one}
 use lib.ListN.{length, getD, take, drop, set, length-map, length-set, List·getD-eq-default}
 use lib.Seq.{getD-set-same, getD-set-other}
 use Rattle.std.specs.declared.option.Option.the-variants.{Some, None}
-use Rattle.std.proofs.shelf.Lists.{getD-take, getD-past, length-take, length-push, getD-map}
+use Rattle.std.proofs.shelf.Lists.{getD-take, getD-past, length-take, length-push}
 use Rattle.std.proofs.shelf.Tests.{cases-lt}
 use Rattle.fields.specs.Lists.{All}
 use Rattle.fields.specs.Field.{Zero}
@@ -28,7 +28,7 @@ use Rattle.fields.proofs.Carrier
 use Rattle.skew.specs.Values.{twisted}
 use Rattle.skew.specs.Products.{coef, coefficient, Below}
 use Rattle.skew.specs.Polynomials.{Codes, Resized}
-use Rattle.skew.specs.Quotients.{Quotient, Divided, Leads, Untwisted, Subtracted}
+use Rattle.skew.specs.Quotients.{Divided, Leads, Untwisted, Subtracted}
 use Rattle.skew.proofs.Multiplication
 use Rattle.skew.proofs.Division
 use Rattle.skew.proofs.Growing.{inverse-some, inverse-none}
@@ -39,6 +39,7 @@ push-left [] x i h = absurd (omega arith)
 push-left (y ∷ xs) x ℕ.zero h = refl
 push-left (y ∷ xs) x (suc i) h = push-left xs x i (omega arith)
 
+-- The new element.
 push-last : (xs : List ℕ) (x i : ℕ) → i ≡ length xs → getD (xs ++ x ∷ []) i 0 ≡ x
 push-last [] x ℕ.zero h = refl
 push-last [] x (suc i) h = absurd (omega arith)
@@ -49,9 +50,11 @@ pub record Resizing (f : List ℕ) (i : ℕ) (out : List ℕ) : Type 0 where
   pub size : length out ≡ min i 48
   pub same : (l : ℕ) → l < length out → getD out l 0 ≡ getD f l 0
 
+-- Before the first coefficient.
 pub resize-starts : {f out : List ℕ} → out ≡ [] → Resizing f 0 out
 resize-starts {f} {out} e = record { size = ap length e; same = λ l h. absurd (omega (arith, ap length e)) }
 
+-- One coefficient more, as far as there is room.
 pub resize-goes-on : {f out out′ : List ℕ} {i x : ℕ} → Resizing f i out → x ≡ getD f i 0 → out′ ≡ take 48 (out ++ x ∷ []) → Resizing f (i + 1) out′
 resize-goes-on {f} {out} {out′} {i} {x} r ex eo = record { size = omega (arith, n, r .size); same = same }
   where
@@ -69,6 +72,7 @@ resize-goes-on {f} {out} {out′} {i} {x} r ex eo = record { size = omega (arith
           at l (omega (arith, n)) ∙ push-last out x l e ∙ ex ∙ ap (λ j. getD f j 0) ei)
     ]
 
+-- After the last one.
 pub resize-ends : {f out : List ℕ} {i n : ℕ} → n ≤ i → i ≤ n → Resizing f i out → Resized f n out
 resize-ends h k r = record { size = omega (arith, r .size); same = r .same }
 
@@ -96,6 +100,7 @@ pub record Dividing (m : Meaning) (n p : List ℕ) (d k j : ℕ) (rest out : Lis
   pub done : (l : ℕ) → d + j ≤ l → l < d + k → coef (ops m) (elems m rest) l ≡ ops m .zero
 
 module _ {m : Meaning} (l : Laws m) where
+  -- The laws of the elements.
   abbrev laws : field.Laws (ops m)
   laws = Carrier.ops-laws l
 
@@ -103,6 +108,7 @@ module _ {m : Meaning} (l : Laws m) where
   pub leading-starts : {f : List ℕ} {n : ℕ} → n ≡ length f → Clear m f n
   leading-starts {f} {n} e = record { null = λ i h. List·getD-eq-default (elems m f) (ops m .zero) (omega (arith, length-map f (elem m))) }
 
+  -- A coefficient that has no inverse is zero.
   pub leading-goes-on : {f : List ℕ} {v : ℕ} (i j : ℕ) → i ≡ suc j → Clear m f i → v ≡ getD f j 0 → None ≡ inverted m v → Clear m f j
   leading-goes-on {f} {v} i j ei h ev en = record { null = go }
     where
@@ -112,6 +118,7 @@ module _ {m : Meaning} (l : Laws m) where
       go : (k : ℕ) → j ≤ k → coef (ops m) (elems m f) k ≡ ops m .zero
       go k g = elim (cases-lt j k) [ inl q ↦ h .null k (omega arith) | inr q ↦ (let e : k ≡ j = omega arith in ap (coef (ops m) (elems m f)) e ∙ here) ]
 
+  -- A coefficient that has an inverse is the leading one.
   pub leading-found : {f : List ℕ} {v x : ℕ} (i j : ℕ) → i ≡ suc j → Clear m f i → v ≡ getD f j 0 → Some x ≡ inverted m v
       → Leads m f j x
   leading-found {f} {v} {x} i j ei h ev es =
@@ -119,26 +126,32 @@ module _ {m : Meaning} (l : Laws m) where
       let e : elem m v ≡ coef (ops m) (elems m f) j = ap (elem m) ev ∙ Carrier.elem-at m f j in
       record { degree = ((λ z. n .0 (e ∙ z)), λ k g. h .null k (omega arith)); inverse = n .1 ∙ ap (ops m .inv) e }
 
+  -- With no such coefficient the polynomial is zero.
   pub leading-none : {f : List ℕ} {i : ℕ} → i ≤ 0 → Clear m f i → All (Zero (ops m)) (elems m f)
   leading-none {f} {i} e h = Multiplication.of-coef laws (elems m f) (λ k. h .null k (omega arith))
 
+  -- Before the first turn.
   pub untwist-starts : (x : ℕ) {y : ℕ} → y ≡ clip m x → Untwisting m x 0 y
   untwist-starts x e = let c = Carrier.clips m x e in record { is = c .0; counts = c .1 }
 
+  -- One twist more is undone.
   pub untwist-goes-on : {x i y y′ : ℕ} → Untwisting m x i y → y′ ≡ m .untwist (clip m y) → Untwisting m x (i + 1) y′
   untwist-goes-on {x} {i} {y} {y′} u e = record {
     is = rw add-one (sym (Multiplication.twisted-twist laws i (elem m y′)) ∙ ap (λ w. twisted (ops m) i (ops m .twist w)) (Carrier.untwists m y e) ∙ ap (twisted (ops m) i) (laws .twist-untwist (elem m y)) ∙ u .is);
     counts = Carrier.untwist-counts l y e;
   }
 
+  -- After the last turn.
   pub untwist-ends : {x n i y : ℕ} → n ≤ i → i ≤ n → Untwisting m x i y → Untwisted m n x y
   untwist-ends {x} {n} {i} {y} h k u =
       let e : i ≡ n = omega arith in
       record { is = ap (λ z. twisted (ops m) z (elem m y)) (sym e) ∙ u .is; counts = u .counts }
 
+  -- Before the first coefficient of the divisor.
   pub subtract-starts : (p : List ℕ) (j c : ℕ) (r : List ℕ) → Subtracting m p j c r 0 c r
   subtract-starts p j c r = record { twists = refl; size = refl; below = λ l h. refl; done = λ l h. absurd (omega arith); left = λ l h. refl }
 
+  -- One coefficient more.
   pub subtract-goes-on : {p r s s′ : List ℕ} {j c i x a t n b h x′ : ℕ} → Subtracting m p j c r i x s
       → a ≡ getD p i 0 → t ≡ m .product (clip m a) (clip m x) → n ≡ m .opposite (clip m t) → b ≡ getD s (i + j) 0 → h ≡ m .sum (clip m b) (clip m n)
       → s′ ≡ set s (i + j) h → x′ ≡ m .twist (clip m x) → Subtracting m p j c r (i + 1) x′ s′
@@ -171,6 +184,7 @@ module _ {m : Meaning} (l : Laws m) where
             subst (λ k. elem m (getD s′ (k + j) 0) ≡ ops m .add (elem m (getD r (k + j) 0)) (ops m .neg (ops m .mul (coef (ops m) (elems m p) k) (twisted (ops m) k (elem m c))))) e (here (omega (arith, u .size))))
       ]
 
+  -- After the last one: the divisor is zero past its end.
   pub subtract-ends : {p r s : List ℕ} {j c i x n : ℕ} → n ≡ length p → n ≤ i → Subtracting m p j c r i x s → Subtracted m p j c r s
   subtract-ends {p} {r} {s} {j} {c} {i} {x} {n} en h u = record { size = u .size; below = u .below; above = above }
     where
@@ -194,11 +208,13 @@ module _ {m : Meaning} (l : Laws m) where
   codes-by [] h = refl
   codes-by (x ∷ f) h = ap (λ y. y ∷ codes (elems m f)) (sym (Carrier.code-elem m x (h 0))) ∙ ap (λ ys. x ∷ ys) (codes-by f (λ i. h (suc i)))
 
+  -- The other way.
   counted-by : (f : List ℕ) → Codes m f → (i : ℕ) → clip m (getD f i 0) ≡ getD f i 0
   counted-by [] h i = Carrier.zero-counts l
   counted-by (x ∷ f) h ℕ.zero = Carrier.counts l x (subst (λ y. Code m y) (ap (λ ys. getD ys 0 0) h) (Carrier.is-code l (elem m x)))
   counted-by (x ∷ f) h (suc i) = counted-by f (ap (drop 1) h) i
 
+  -- Before the first turn out is zero, and the rest is the dividend.
   pub divide-starts : {n p rest e out : List ℕ} {d k : ℕ} → d + k ≤ 48 → Resized n (d + k) rest → e ≡ [] → Resized e k out → Dividing m n p d k k rest out
   divide-starts {n} {p} {rest} {e} {out} {d} {k} room a ee z = record {
     size-rest = omega (arith, a .size);
@@ -217,6 +233,7 @@ module _ {m : Meaning} (l : Laws m) where
       nought : (y : Elem m) → ops m .add y (ops m .neg (ops m .zero)) ≡ y
       nought y = simp (ring, laws)
 
+  -- The top of the rest, over the leading coefficient and untwisted, is one coefficient more.
   pub divide-goes-on : (i j : ℕ) {n p rest rest′ out out′ : List ℕ} {d k inverse high ratio c : ℕ} → i ≡ suc j → Leads m p d inverse
       → Dividing m n p d k i rest out → high ≡ getD rest (d + j) 0 → ratio ≡ m .product (clip m high) (clip m inverse) → Untwisted m d ratio c
       → Subtracted m p j c rest rest′ → out′ ≡ set out j c → Dividing m n p d k j rest′ out′
@@ -298,6 +315,7 @@ module _ {m : Meaning} (l : Laws m) where
         | inr w ↦ (let e : q ≡ d + j = omega arith in ap (coef (ops m) (elems m rest′)) e ∙ top)
       ]
 
+  -- After the last turn the rest is zero at all k places.
   pub divide-ends : {n p rest out : List ℕ} {d k inverse : ℕ} (j : ℕ) → j ≤ 0 → d + k ≤ 48 → Leads m p d inverse → Dividing m n p d k j rest out → Divided m n p k out
   divide-ends {n} {p} {rest} {out} {d} {k} j z room lead v = record {
     d = d;

@@ -1,7 +1,7 @@
 -- Division on the left, over any field with an automorphism: how one coefficient more changes a product, and that places d to
 -- d + k - 1 of a product with a polynomial of degree d tell its k coefficients.
-use mathlib.Core.Path.{_≡_, refl, sym, _∙_, ap}
-use mathlib.Core.Logic.{_≢_, _⊎_, inl, inr}
+use mathlib.Core.Path.{_≡_, sym, _∙_, ap}
+use mathlib.Core.Logic.{_≢_, inl, inr}
 use mathlib.Core.List.{List}
 use Prim.Native.Nat.{ℕ, suc, _≤_, _<_, _-_, _+_ as _+ℕ_}
 use native.Mathlib.Omega.{arith}
@@ -74,6 +74,7 @@ module _ {F : Type 0} {o : Ops F} (l : Laws o) where
       more : total o u n ≡ total o v n + (u p + neg (v p))
       more = total-but-one u v n p (u p + neg (v p)) h (split (u p) (v p)) same
 
+  -- Twists tell elements apart.
   twisted-inj : (n : ℕ) (x y : F) → twisted o n x ≡ twisted o n y → x ≡ y
   twisted-inj ℕ.zero x y e = e
   twisted-inj (suc n) x y e = twisted-inj n x y (Basics.twist-inj l (twisted o n x) (twisted o n y) e)

@@ -19,9 +19,11 @@ module _ {F : Type 0} {o : Ops F} (l : Laws o) where
   pub both-values : eval o ≡ value o
   both-values = fun-ext (λ a. fun-ext (λ f. fun-ext (λ b. eval-value l a f b)))
 
+  -- One step keeps sums.
   step-add : (a x y : F) → step o a (x + y) ≡ step o a x + step o a y
   step-add a x y = simp (ring, twists, l)
 
+  -- One step keeps products with a fixed element.
   step-scale : (a d x : F) → Fixed o d → step o a (d * x) ≡ d * step o a x
   step-scale a d x p = simp (ring, twists, l, p)
 
@@ -53,12 +55,15 @@ module _ {F : Type 0} {o : Ops F} (l : Laws o) where
   eval-zero a [] = refl
   eval-zero a (c ∷ f) = ap (λ w. c * zero + eval o a f w) (simp (ring, twists, l)) ∙ ap (λ w. c * zero + w) (eval-zero a f) ∙ simp (ring, l)
 
+  -- T keeps sums and products with a fixed element.
   abbrev pub Linear : (F → F) → Type 0
   Linear T = ((x y : F) → T (x + y) ≡ T x + T y) × ((d x : F) → Fixed o d → T (d * x) ≡ d * T x)
 
+  -- The value is linear in the locator.
   pub eval-linear : (a : F) (p : List F) → Linear (eval o a p)
   eval-linear a p = (eval-add a p, eval-scale a p)
 
+  -- A linear map takes zero to zero.
   linear-zero : (T : F → F) → Linear T → T zero ≡ zero
   linear-zero T L =
       ap T (sym (Basics.zero-mul l zero)) ∙ L .1 zero zero (Basics.fixed-zero l) ∙ Basics.zero-mul l (T zero)

@@ -2,14 +2,17 @@
 use mathlib.Core.List.{List, [], _∷_, map, _++_}
 use Rattle.fields.specs.Lists.{All}
 
+-- Of the first part.
 pub all-left : {A : Type 0} (P : A → Type 0) (xs ys : List A) → All P (xs ++ ys) → All P xs
 all-left P [] ys h = tt
 all-left P (x ∷ xs) ys h = (h .0, all-left P xs ys (h .1))
 
+-- Of the second part.
 pub all-right : {A : Type 0} (P : A → Type 0) (xs ys : List A) → All P (xs ++ ys) → All P ys
 all-right P [] ys h = h
 all-right P (x ∷ xs) ys h = all-right P xs ys (h .1)
 
+-- Of both parts, so of the whole.
 pub all-append : {A : Type 0} (P : A → Type 0) (xs ys : List A) → All P xs → All P ys → All P (xs ++ ys)
 all-append P [] ys h k = k
 all-append P (x ∷ xs) ys h k = (h .0, all-append P xs ys (h .1) k)

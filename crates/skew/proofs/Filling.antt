@@ -2,7 +2,7 @@
 --
 --   Filling X i p    p holds the first i coefficients of X, as far as there is room
 use mathlib.Core.Path.{_≡_, refl, sym, ap, _∙_}
-use mathlib.Core.List.{List, [], _∷_, _++_, map}
+use mathlib.Core.List.{List, [], _∷_, _++_}
 use Prim.Native.Nat.{ℕ, suc, _+_, _<_, _≤_}
 use native.Mathlib.Omega.{arith}
 use lib.ListN.{length, getD, set, take, length-map}
@@ -41,6 +41,7 @@ put-is (suc n) [] i x h = refl
 put-is (suc n) (c ∷ cells) ℕ.zero x h = refl
 put-is (suc n) (c ∷ cells) (suc i) x h = ap (λ zs. c ∷ zs) (put-is n cells i x (omega arith))
 
+-- Past the end nothing is put.
 pub put-past : (xs : List ℕ) (i x : ℕ) → length xs ≤ i → xs ≡ set xs i x
 put-past [] i x h = refl
 put-past (c ∷ xs) ℕ.zero x h = absurd (omega arith)

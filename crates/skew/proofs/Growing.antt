@@ -4,7 +4,7 @@
 use mathlib.Core.Path.{_≡_, refl, sym, ap, _∙_, subst}
 use mathlib.Core.Bool.{Bool, true, false, cond}
 use mathlib.Core.Logic.{_≢_}
-use mathlib.Core.List.{List, [], _∷_, _++_, map}
+use mathlib.Core.List.{List, [], _∷_, _++_}
 use Prim.Native.Nat.{ℕ, suc, _+_, _<_, _≤_, _-_}
 use native.Mathlib.Omega.{arith}
 use lib.Dec.{ltb}
@@ -16,7 +16,7 @@ use Rattle.std.proofs.shelf.Tests.{ltb-true, ltb-false, cond-true}
 use Rattle.fields.specs.Lists.{All}
 use Rattle.fields.specs.Field as field
 use Rattle.fields.specs.Meaning.{Meaning, Laws, clip, inverted}
-use Rattle.fields.specs.Elements.{Elem, element, elem, elems, codes, ops, reciprocal-of}
+use Rattle.fields.specs.Elements.{Elem, element, elem, elems, codes, ops}
 use Rattle.fields.proofs.Basics
 use Rattle.fields.proofs.Carrier
 use Rattle.std.specs.Options.{Cases}
@@ -38,15 +38,18 @@ pub record Growing (m : Meaning) (ps : List Point) (f : List ℕ) : Type 0 where
   pub degree : length f ≤ suc (length ps)
   pub vanishes : All (Vanishes (ops m) (elems m f)) (places m ps)
 
+-- What a choice between a value and none says where it is a value.
 some-of : (b : Bool) (x i : ℕ) → Some i ≡ cond b (Some x) None → (b ≡ true) × (i ≡ x)
 some-of true x i e = (refl, cc)
 some-of false x i e = let z : _≡_ {A = ℕ} 0 1 = cc in absurd (omega arith)
 
+-- And where it is none.
 none-of : (b : Bool) (x : ℕ) → None ≡ cond b (Some x) None → b ≡ false
 none-of true x e = let z : _≡_ {A = ℕ} 0 1 = cc in absurd (omega arith)
 none-of false x e = refl
 
 module _ {m : Meaning} (l : Laws m) where
+  -- The laws of the elements.
   laws : field.Laws (ops m)
   laws = Carrier.ops-laws l
 
@@ -54,6 +57,7 @@ module _ {m : Meaning} (l : Laws m) where
   pub code-of-zero : ops m .zero .code ≡ 0
   code-of-zero = sym (Carrier.answers _ (Carrier.zero-counts l) (Carrier.zero-is m))
 
+  -- The code of the element of a number is what the number counts as.
   code-of : (v : ℕ) → elem m v .code ≡ clip m v
   unfolding element
   code-of v = refl
@@ -65,11 +69,13 @@ module _ {m : Meaning} (l : Laws m) where
       let h : 0 < clip m v = ltb-true 0 (clip m v) (s .0) in
       ((λ z. omega (arith, h, sym (code-of v) ∙ ap (λ (x : Elem m). x .code) z ∙ code-of-zero)), Carrier.inverts m v (s .1 ∙ sym (cond-true (ltb 0 (clip m v)) (m .inverse (clip m v)) 0 (s .0))))
 
+  -- Only zero has no inverse.
   pub inverse-none : (v : ℕ) → None ≡ inverted m v → elem m v ≡ ops m .zero
   inverse-none v e =
       let h = ltb-false 0 (clip m v) (none-of (ltb 0 (clip m v)) (m .inverse (clip m v)) e) in
       Carrier.same-code (elem m v) (ops m .zero) (code-of v ∙ (let z : clip m v ≡ 0 = omega arith in z) ∙ sym code-of-zero)
 
+  -- What `root` computes.
   pub root-is : (a v : ℕ) {i t s c : ℕ} → Some i ≡ inverted m v → t ≡ m .twist (clip m v) → s ≡ m .product (clip m t) (clip m a) → c ≡ m .product (clip m s) (clip m i) → Root m a v c
   root-is a v {i} {t} {s} {c} ei et es ec =
       let o = ops m in
@@ -81,12 +87,14 @@ module _ {m : Meaning} (l : Laws m) where
       let e : elem m c ≡ o .mul (step o (elem m a) (elem m v)) (o .inv (elem m v)) = cc in
       record { is = ap (λ w. o .mul w (elem m v)) e ∙ Basics.mul-assoc laws _ (o .inv (elem m v)) (elem m v) ∙ ap (o .mul _) (Basics.inv-mul laws (elem m v) (n .0)) ∙ Basics.mul-one laws _ }
 
+  -- What `linear` fills in.
   pub linear-is : (c : ℕ) {d : ℕ} {e p q : List ℕ} → e ≡ [] → d ≡ m .opposite (clip m c) → p ≡ take 48 (e ++ d ∷ []) → q ≡ take 48 (p ++ 1 ∷ []) → q ≡ codes (linear (ops m) (elem m c))
   linear-is c {d} {e} {p} {q} ee ed ep eq =
       eq ∙ ap (λ y. take 48 (y ++ 1 ∷ [])) (ep ∙ ap (λ y. take 48 (y ++ d ∷ [])) ee)
       ∙ ap (λ x. x ∷ 1 ∷ []) (Carrier.answers (ops m .neg (elem m c)) (Carrier.opposite-counts l c ed) (Carrier.negates m c ed))
       ∙ ap (λ x. ops m .neg (elem m c) .code ∷ x ∷ []) (Carrier.answers (ops m .one) (Carrier.one-counts l) (Carrier.one-is m))
 
+  -- Both forms of the value.
   both : eval (ops m) ≡ value (ops m)
   both = Evaluation.both-values laws
 
@@ -125,6 +133,7 @@ module _ {m : Meaning} (l : Laws m) where
       let V : elem m v ≡ eval o a (elems m g) b = Carrier.named _ ev ∙ ap (λ z. eval o a (elems m z) b) es in
       record { proper = λ h. h; size = omega arith; monic = λ h. h; there = subst (λ w. w a (elems m g) b ≡ o .zero) both (sym V ∙ z); keeps = λ t h. h }
 
+  -- The polynomial 1 vanishes at no point.
   pub annihilator-starts : {e out : List ℕ} → e ≡ [] → out ≡ take 48 (e ++ 1 ∷ []) → Growing m [] out
   annihilator-starts {e} {out} ee eo =
       let e1 : out ≡ 1 ∷ [] = eo ∙ ap (λ ys. take 48 (ys ++ 1 ∷ [])) ee in
@@ -152,6 +161,7 @@ module _ {m : Meaning} (l : Laws m) where
   pub annihilator-room : (ps : List Point) {i : ℕ} {out : List ℕ} → length ps ≤ 24 → i < length ps → Growing m (take i ps) out → 47 < length out → ⊥
   annihilator-room ps {i} few h a full = omega (arith, a .degree, length-take-le i ps (omega arith))
 
+  -- After the last point.
   pub annihilator-ends : {ps : List Point} {i : ℕ} {out : List ℕ} → length ps ≤ 24 → length ps ≤ i → Growing m (take i ps) out → Annihilated m ps out
   annihilator-ends {ps} {i} {out} few h a′ =
       let a : Growing m ps out = subst (λ qs. Growing m qs out) (take-all i ps h) a′ in

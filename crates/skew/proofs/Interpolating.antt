@@ -4,11 +4,11 @@
 use mathlib.Core.Path.{_≡_, refl, sym, ap, _∙_, subst}
 use mathlib.Core.Logic.{_≢_}
 use mathlib.Core.List.{List, [], _∷_, _++_, map}
-use Prim.Native.Nat.{ℕ, suc, _+_, _<_, _≤_, max}
+use Prim.Native.Nat.{ℕ, _+_, _<_, _≤_}
 use native.Mathlib.Omega.{arith}
 use lib.ListN.{length, getD, take, drop, length-map, take-append-drop}
 use Rattle.std.specs.declared.option.Option.the-variants.{Some, None}
-use Rattle.std.proofs.shelf.Lists.{take-more, take-all, take-map, map-append, length-take-le}
+use Rattle.std.proofs.shelf.Lists.{take-more, take-all, map-append, length-take-le}
 use Rattle.fields.specs.Lists.{All}
 use Rattle.fields.specs.Field.{plus, scale}
 use Rattle.fields.specs.Field as field
@@ -20,8 +20,7 @@ use Rattle.fields.proofs.Rows
 use Rattle.fields.proofs.Carrier
 use Rattle.skew.specs.declared.points.Point.{Point}
 use Rattle.skew.specs.Values.{eval, value, eval-code}
-use Rattle.skew.specs.Roots.{Block, points, Lawful, at, Vanishes}
-use Rattle.skew.specs.Products.{coef}
+use Rattle.skew.specs.Roots.{at, Vanishes}
 use Rattle.skew.specs.Polynomials.{Codes, combined}
 use Rattle.skew.specs.Annihilators.{place, places, Grown}
 use Rattle.skew.specs.Interpolation.{values, Unlawful, Interpolated, Corrected}
@@ -54,16 +53,20 @@ module _ {F : Type 0} {o : field.Ops F} (l : field.Laws o) where
       ap (λ z. eval o a (plus o z (scale o c g)) b) (Sums.scale-one l f) ∙ Evaluation.eval-plus l a f (scale o c g) b
       ∙ ap (λ w. eval o a f b + w) (Evaluation.eval-scaled l a c g b)
 
+  -- The multiple that is added closes the gap.
   settled : (v x y : F) → y ≢ zero → x + (v + neg x) * inv y * y ≡ v
   settled v x y n = ap (λ w. x + w) (Basics.mul-assoc l (v + neg x) (inv y) y ∙ ap (λ w. (v + neg x) * w) (Basics.inv-mul l y n)) ∙ simp (ring, l)
 
+  -- A multiple of what is zero adds nothing.
   cleared : (x c : F) → x + c * zero ≡ x
   cleared x c = simp (ring, l)
 
 module _ {m : Meaning} (l : Laws m) where
+  -- The laws of the elements.
   laws : field.Laws (ops m)
   laws = Carrier.ops-laws l
 
+  -- Both forms of the value.
   both : eval (ops m) ≡ value (ops m)
   both = Evaluation.both-values laws
 
@@ -135,6 +138,7 @@ module _ {m : Meaning} (l : Laws m) where
       let tv : elem m there ≡ eval o a (elems m g) b = Carrier.named _ et ∙ ap (λ z. eval o a (elems m z) b) esg in
       subst (λ v. v a (elems m g) b ≡ o .zero) both (sym tv ∙ inverse-none l there ei)
 
+  -- Before the first point.
   pub newton-starts : (ps : List Point) (vs : List ℕ) {e f g : List ℕ} → f ≡ [] → e ≡ [] → g ≡ take 48 (e ++ 1 ∷ []) → Stepping m ps vs 0 f g
   newton-starts ps vs {e} {f} {g} ef ee eg = record {
     proper = ap (λ z. codes (elems m z)) ef ∙ sym ef;
@@ -143,6 +147,7 @@ module _ {m : Meaning} (l : Laws m) where
     base = annihilator-starts l ee eg;
   }
 
+  -- One point more: the old values are kept, since the base vanishes there.
   pub newton-goes-on : (d : Point) (ps : List Point) (vs : List ℕ) {i : ℕ} {f g f′ g′ : List ℕ} → length vs ≡ length ps → i < length ps → Stepping m ps vs i f g
       → Corrected m f g (getD ps i d) (getD vs i 0) f′ → Grown m g (getD ps i d) g′ → Stepping m ps vs (i + 1) f′ g′
   newton-goes-on d ps vs {i} {f} {g} {f′} {g′} len h s k r =
@@ -181,6 +186,7 @@ module _ {m : Meaning} (l : Laws m) where
           subst (All (Vanishes (ops m) (elems m g))) (sym (ap (places m) (take-more ps i d h) ∙ map-append (place m) (take i ps) (getD ps i d ∷ [])))
           (all-append (Vanishes (ops m) (elems m g)) (places m (take i ps)) (place m (getD ps i d) ∷ []) (s .base .vanishes) (z, tt))
 
+  -- After the last point; lawful points tell polynomials apart.
   pub newton-ends : (ps : List Point) (vs : List ℕ) {i : ℕ} {f g : List ℕ} → length ps ≤ 24 → length vs ≡ length ps → length ps ≤ i → i ≤ length ps → Stepping m ps vs i f g → Interpolated m ps vs f
   newton-ends ps vs {i} {f} {g} few len h k s =
       let has : values (ops m) (elems m f) (places m ps) ≡ elems m vs =

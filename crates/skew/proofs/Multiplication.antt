@@ -6,7 +6,7 @@
 use mathlib.Core.Path.{_≡_, refl, sym, _∙_, ap, subst}
 use mathlib.Core.Logic.{_≢_}
 use mathlib.Core.List.{List, [], _∷_, map}
-use Prim.Native.Nat.{ℕ, suc, _≤_, _<_, _-_, max, _+_ as _+ℕ_}
+use Prim.Native.Nat.{ℕ, suc, _≤_, _<_, _-_, _+_ as _+ℕ_}
 use native.Mathlib.Omega.{arith}
 use lib.ListN.{length, length-map}
 use Rattle.fields.specs.Lists.{All}
@@ -14,14 +14,16 @@ use Rattle.fields.specs.Field.{Ops, Laws, Zero, plus, scale}
 use Rattle.fields.proofs.Basics
 use Rattle.fields.proofs.Basics.{ring, twists}
 use Rattle.fields.proofs.Rows
-use Rattle.skew.specs.Values.{twisted, step, eval, value}
+use Rattle.skew.specs.Values.{twisted, step, eval}
 use Rattle.skew.specs.Products.{coef, total, coefficient, Product}
 use Rattle.skew.proofs.Evaluation
 
 module _ {F : Type 0} (o : Ops F) where
+  -- x times g.
   abbrev pub shift : List F → List F
   shift g = o .zero ∷ map (o .twist) g
 
+  -- The product by recursion on its first factor.
   abbrev pub times : List F → List F → List F
   times [] g = []
   times (c ∷ f) g = plus o (scale o c g) (times f (shift g))
@@ -31,6 +33,7 @@ module _ {F : Type 0} {o : Ops F} (l : Laws o) where
 
   infixl 65 _+_
   infixl 70 _*_
+  -- To twist the coefficients and to step first is to step after.
   eval-twisted : (a : F) (g : List F) (b : F) → eval o a (map twist g) (step o a b) ≡ step o a (eval o a g b)
   eval-twisted a [] b = sym (ap (λ w. w * a) (Basics.twist-zero l) ∙ Basics.zero-mul l a)
   eval-twisted a (x ∷ g) b = ap (λ w. twist x * step o a b + w) (eval-twisted a g (step o a b)) ∙ gather (eval o a g (step o a b))
@@ -56,36 +59,44 @@ module _ {F : Type 0} {o : Ops F} (l : Laws o) where
   coef-of (x ∷ f) h ℕ.zero = h .0
   coef-of (x ∷ f) h (suc i) = coef-of f (h .1) i
 
+  -- And the other way.
   pub of-coef : (f : List F) → ((i : ℕ) → coef o f i ≡ zero) → All (Zero o) f
   of-coef [] h = tt
   of-coef (x ∷ f) h = (h 0, of-coef f (λ i. h (suc i)))
 
+  -- Coefficients of a sum.
   pub coef-plus : (f g : List F) (i : ℕ) → coef o (plus o f g) i ≡ coef o f i + coef o g i
   coef-plus [] g i = sym (Basics.zero-add l _)
   coef-plus (x ∷ f) [] i = sym (Basics.add-zero l _)
   coef-plus (x ∷ f) (y ∷ g) ℕ.zero = refl
   coef-plus (x ∷ f) (y ∷ g) (suc i) = coef-plus f g i
 
+  -- Coefficients of a multiple.
   pub coef-scale : (c : F) (g : List F) (i : ℕ) → coef o (scale o c g) i ≡ c * coef o g i
   coef-scale c [] i = sym (Basics.mul-zero l c)
   coef-scale c (x ∷ g) ℕ.zero = refl
   coef-scale c (x ∷ g) (suc i) = coef-scale c g i
 
+  -- Coefficients twisted.
   pub coef-twist : (g : List F) (i : ℕ) → coef o (map twist g) i ≡ twist (coef o g i)
   coef-twist [] i = sym (Basics.twist-zero l)
   coef-twist (x ∷ g) ℕ.zero = refl
   coef-twist (x ∷ g) (suc i) = coef-twist g i
 
+  -- Coefficients of a product, by the first coefficient of its first factor.
   pub coef-times : (c : F) (f g : List F) (i : ℕ) → coef o (times o (c ∷ f) g) i ≡ c * coef o g i + coef o (times o f (shift o g)) i
   coef-times c f g i = coef-plus (scale o c g) (times o f (shift o g)) i ∙ ap (λ w. w + coef o (times o f (shift o g)) i) (coef-scale c g i)
 
+  -- The lowest coefficient of a product with x times something.
   lowest-zero : (f g : List F) → coef o (times o f (zero ∷ g)) 0 ≡ zero
   lowest-zero [] g = refl
   lowest-zero (c ∷ f) g = coef-times c f (zero ∷ g) 0 ∙ ap (λ w. c * zero + w) (lowest-zero f (map twist (zero ∷ g))) ∙ simp (ring, l)
 
+  -- The lowest coefficient of a product.
   lowest : (c z : F) (f g : List F) → coef o (times o (c ∷ f) (z ∷ g)) 0 ≡ c * z
   lowest c z f g = coef-times c f (z ∷ g) 0 ∙ ap (λ w. c * z + w) (lowest-zero f (map twist (z ∷ g))) ∙ Basics.add-zero l (c * z)
 
+  -- A product with x times something, one place higher.
   raised : (f g : List F) (i : ℕ) → coef o (times o f (zero ∷ g)) (suc i) ≡ coef o (times o f g) i
   raised [] g i = refl
   raised (c ∷ f) g i =
@@ -103,10 +114,12 @@ module _ {F : Type 0} {o : Ops F} (l : Laws o) where
       first : z ≡ zero
       first = Basics.right-zero l c z n (sym (lowest c z f g) ∙ h 0)
 
+  -- What is zero once twisted is zero.
   untwist-null : (g : List F) → All (Zero o) (map twist g) → All (Zero o) g
   untwist-null [] h = tt
   untwist-null (x ∷ g) h = (Basics.twist-inj l x zero (h .0 ∙ sym (Basics.twist-zero l)), untwist-null g (h .1))
 
+  -- The first coefficient of f that is not zero is met in time.
   no-divisors-coef : (f g : List F) → ¬ All (Zero o) f → ((i : ℕ) → coef o (times o f g) i ≡ zero) → All (Zero o) g
   no-divisors-coef [] g n h = absurd (n tt)
   no-divisors-coef (c ∷ f) g n h =
@@ -121,6 +134,7 @@ module _ {F : Type 0} {o : Ops F} (l : Laws o) where
   pub no-divisors : (f g : List F) → ¬ All (Zero o) f → All (Zero o) (times o f g) → All (Zero o) g
   no-divisors f g n h = no-divisors-coef f g n (coef-of (times o f g) h)
 
+  -- How many coefficients a product has.
   pub length-times : (c : F) (f g : List F) → length (times o (c ∷ f) g) ≡ length f +ℕ length g
   length-times c [] g = Rows.length-plus l (scale o c g) [] ∙ omega (arith, length-map g (o .mul c))
   length-times c (d ∷ f) g =
@@ -148,6 +162,7 @@ module _ {F : Type 0} {o : Ops F} (l : Laws o) where
   twisted-twist ℕ.zero x = refl
   twisted-twist (suc i) x = ap twist (twisted-twist i x)
 
+  -- Zero twisted is zero.
   pub twisted-zero : (i : ℕ) → twisted o i zero ≡ zero
   twisted-zero ℕ.zero = refl
   twisted-zero (suc i) = ap twist (twisted-zero i) ∙ Basics.twist-zero l

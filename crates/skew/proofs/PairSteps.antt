@@ -5,10 +5,10 @@
 --   cross c q d p     c times q less d times p
 use mathlib.Core.Path.{_≡_, refl, sym, _∙_, ap, subst}
 use mathlib.Core.Logic.{_≢_, _⊎_, inl, inr}
-use mathlib.Core.List.{List, [], _∷_, map, _++_}
+use mathlib.Core.List.{List, [], _∷_, _++_}
 use Prim.Native.Nat.{ℕ, suc, _≤_, _<_, _-_, _+_ as _+ℕ_}
 use native.Mathlib.Omega.{arith}
-use lib.ListN.{length, length-append}
+use lib.ListN.{length-append}
 use Rattle.fields.specs.Lists.{All}
 use Rattle.fields.specs.Field.{Ops, Laws, plus, scale}
 use Rattle.fields.proofs.Basics
@@ -23,12 +23,15 @@ use Rattle.skew.proofs.Multiplication.{shift}
 use Rattle.skew.proofs.Combining.{coef-combined, coef-raised}
 
 module _ {F : Type 0} (o : Ops F) where
+  -- (x - c) × f.
   abbrev pub lifted : F → List F → List F
   lifted c f = plus o (scale o (o .neg c) f) (shift o f)
 
+  -- Both polynomials of a pair multiplied by x - c.
   abbrev pub lift : F → Two F → Two F
   lift c q = record { q0 = lifted c (q .q0); q1 = lifted c (q .q1) }
 
+  -- c times q less d times p.
   abbrev pub cross : F → Two F → F → Two F → Two F
   cross c q d p = record { q0 = plus o (scale o c (q .q0)) (scale o (o .neg d) (p .q0)); q1 = plus o (scale o c (q .q1)) (scale o (o .neg d) (p .q1)) }
 
@@ -47,6 +50,7 @@ module _ {F : Type 0} {o : Ops F} (l : Laws o) where
   below-lifted c n m f e h i k =
       coef-raised l (neg c) f i ∙ ap (λ w. neg c * w + coef o (shift o f) i) (h i (omega arith)) ∙ ap (λ w. neg c * zero + w) (below-shift n m f e h i k) ∙ simp (ring, l)
 
+  -- (x - c) × f has a degree one higher.
   top-lifted : (c : F) (n : ℕ) (f : List F) → Degree o f n → Degree o (lifted o c f) (suc n)
   top-lifted c n f h = ((λ e. Basics.twist-nonzero l (coef o f n) (h .0) (sym same ∙ e)), below-lifted c (suc n) (suc (suc n)) f (omega arith) (h .1))
     where
@@ -72,9 +76,11 @@ module _ {F : Type 0} {o : Ops F} (l : Laws o) where
       gone (inl z) = ap (λ w. c * coef o f i + neg w * coef o g i) z ∙ nil (coef o f i) (coef o g i)
       gone (inr z) = ap (λ w. c * coef o f i + neg d * w) z ∙ none (coef o f i) d
 
+  -- Where both have no coefficient, neither has the sum of multiples.
   null-crossed : (c d : F) (f g : List F) (i : ℕ) → coef o f i ≡ zero → (d ≡ zero) ⊎ (coef o g i ≡ zero) → coef o (plus o (scale o c f) (scale o (neg d) g)) i ≡ zero
   null-crossed c d f g i z side = coef-crossed c d f g i side ∙ ap (λ w. c * w) z ∙ Basics.mul-zero l c
 
+  -- c × f keeps its degree where g does not reach it.
   top-crossed : (c d : F) (n : ℕ) (f g : List F) → c ≢ zero → Degree o f n → (d ≡ zero) ⊎ Below o n g → Degree o (plus o (scale o c f) (scale o (neg d) g)) n
   top-crossed c d n f g nc h side = (
     (λ e. Basics.mul-nonzero l c (coef o f n) nc (h .0) (sym (coef-crossed c d f g n (at n (omega arith) side)) ∙ e)),
@@ -92,12 +98,14 @@ module _ {F : Type 0} {o : Ops F} (l : Laws o) where
       (Evaluation.eval-plus l a (scale o (neg c) f) (shift o f) x ∙ ap (λ w. w + eval o a (shift o f) x) (Evaluation.eval-scaled l a (neg c) f x)
       ∙ ap (λ w. neg c * eval o a f x + w) (Multiplication.eval-shift l a f x))
 
+  -- The value of a sum of multiples.
   value-crossed : (a c d : F) (f g : List F) (x : F) → value o a (plus o (scale o c f) (scale o (neg d) g)) x ≡ c * value o a f x + neg d * value o a g x
   value-crossed a c d f g x =
       subst (λ v. v a (plus o (scale o c f) (scale o (neg d) g)) x ≡ c * v a f x + neg d * v a g x) (Evaluation.both-values l)
       (Evaluation.eval-plus l a (scale o c f) (scale o (neg d) g) x ∙ ap (λ w. w + eval o a (scale o (neg d) g) x) (Evaluation.eval-scaled l a c f x)
       ∙ ap (λ w. c * eval o a f x + w) (Evaluation.eval-scaled l a (neg d) g x))
 
+  -- The value of a pair multiplied by x - c.
   worth-lifted : (c : F) (q : Two F) (p : Spot F) → worth o (lift o c q) p ≡ neg c * worth o q p + step o (p .parameter) (worth o q p)
   worth-lifted c q p =
       ap (λ w. w + value o (p .parameter) (lifted o c (q .q1)) (p .second)) (value-lifted (p .parameter) c (q .q0) (p .locator))
@@ -109,6 +117,7 @@ module _ {F : Type 0} {o : Ops F} (l : Laws o) where
       gather : (x y : F) → neg c * x + twist x * p .parameter + (neg c * y + twist y * p .parameter) ≡ neg c * (x + y) + twist (x + y) * p .parameter
       gather x y = simp (ring, twists, l)
 
+  -- The value of a sum of multiples of pairs.
   worth-crossed : (c d : F) (q r : Two F) (p : Spot F) → worth o (cross o c q d r) p ≡ c * worth o q p + neg d * worth o r p
   worth-crossed c d q r p =
       ap (λ w. w + value o a (cross o c q d r .q1) (p .second)) (value-crossed a c d (q .q0) (r .q0) (p .locator))
@@ -129,22 +138,26 @@ module _ {F : Type 0} {o : Ops F} (l : Laws o) where
       nil : (a : F) → neg c * zero + twist zero * a ≡ zero
       nil a = simp (ring, twists, l)
 
+  -- The right factor takes the value at the new spot to zero.
   lifted-new : (c : F) (q : Two F) (p : Spot F) → c * worth o q p ≡ step o (p .parameter) (worth o q p) → worth o (lift o c q) p ≡ zero
   lifted-new c q p e = worth-lifted c q p ∙ ap (λ w. neg c * worth o q p + w) (sym e) ∙ gather (worth o q p)
     where
       gather : (w : F) → neg c * w + c * w ≡ zero
       gather w = simp (ring, l)
 
+  -- A sum of multiples vanishes where both do.
   crossed-old : (c d : F) (q r : Two F) (ps : List (Spot F)) → All (λ p. worth o q p ≡ zero) ps → All (λ p. worth o r p ≡ zero) ps → All (λ p. worth o (cross o c q d r) p ≡ zero) ps
   crossed-old c d q r [] h k = tt
   crossed-old c d q r (p ∷ ps) h k = (worth-crossed c d q r p ∙ ap (λ w. c * w + neg d * worth o r p) (h .0) ∙ ap (λ w. c * zero + neg d * w) (k .0) ∙ simp (ring, l), crossed-old c d q r ps (h .1) (k .1))
 
+  -- Crossed by their values, the two cancel at the new spot.
   crossed-new : (q r : Two F) (p : Spot F) → worth o (cross o (worth o r p) q (worth o q p) r) p ≡ zero
   crossed-new q r p = worth-crossed (worth o r p) (worth o q p) q r p ∙ gather (worth o q p) (worth o r p)
     where
       gather : (x y : F) → y * x + neg x * y ≡ zero
       gather x y = simp (ring, l)
 
+  -- What vanishes at the spots so far and at one more.
   onto : (q : Two F) (ps : List (Spot F)) (p : Spot F) → All (λ p. worth o q p ≡ zero) ps → worth o q p ≡ zero → All (λ p. worth o q p ≡ zero) (ps ++ p ∷ [])
   onto q ps p h e = all-append (λ p. worth o q p ≡ zero) ps (p ∷ []) h (e, tt)
 

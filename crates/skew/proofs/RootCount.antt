@@ -5,7 +5,7 @@
 -- lawful again, since what `less c` takes to zero is a fixed multiple of b in b's own block and makes parameters conjugate in another.
 use mathlib.Core.Path.{_≡_, refl, sym, _∙_, ap, subst}
 use mathlib.Core.Logic.{_≢_}
-use mathlib.Core.List.{List, [], _∷_, map, _++_}
+use mathlib.Core.List.{List, [], _∷_, map}
 use Prim.Native.Nat.{ℕ, suc, _≤_}
 use native.Mathlib.Omega.{arith}
 use lib.ListN.{length, length-map}
@@ -31,6 +31,7 @@ module _ {F : Type 0} {o : Ops F} (l : Laws o) where
   abbrev pub less : F → F → F → F
   less c a b = step o a b + neg (c * b)
 
+  -- It is linear.
   pub less-linear : (c a : F) → Evaluation.Linear l (less c a)
   less-linear c a =
       ((λ x y. simp (ring, twists, l)), (λ d x p. simp (ring, twists, l, p)))
@@ -45,16 +46,19 @@ module _ {F : Type 0} {o : Ops F} (l : Laws o) where
   quotient c [] = []
   quotient c (x ∷ f) = rest (twist c) (x ∷ f) ∷ quotient (twist c) f
 
+  -- The quotient has a coefficient less than f with its lowest.
   length-quotient : (c : F) (f : List F) → length (quotient c f) ≡ length f
   length-quotient c [] = refl
   length-quotient c (x ∷ f) = ap suc (length-quotient (twist c) f)
 
+  -- To step after x - c is to step first, with c twisted.
   less-step : (c a b : F) → step o a (less c a b) ≡ less (twist c) a (step o a b)
   less-step c a b = go
     where
       go : twist (twist b * a + neg (c * b)) * a ≡ twist (twist b * a) * a + neg (twist c * (twist b * a))
       go = simp (ring, twists, l)
 
+  -- The value by quotient and rest.
   divide : (c a x : F) (f : List F) (b : F) → eval o a (x ∷ f) b ≡ eval o a (quotient c f) (less c a b) + rest c (x ∷ f) * b
   divide c a x [] b = simp (ring, l)
   divide c a x (y ∷ f) b =
@@ -65,6 +69,7 @@ module _ {F : Type 0} {o : Ops F} (l : Laws o) where
       gather : (r e d : F) → x * b + (e + r * d) ≡ r * (d + neg (c * b)) + e + (x + r * c) * b
       gather r e d = simp (ring, l)
 
+  -- Where quotient and rest are zero all coefficients are.
   undivide : (c x : F) (f : List F) → rest c (x ∷ f) ≡ zero → All (Zero o) (quotient c f) → All (Zero o) (x ∷ f)
   undivide c x [] r q = (sym (simp (ring, l, rest)) ∙ r, tt)
   undivide c x (y ∷ f) r q =
@@ -77,10 +82,12 @@ module _ {F : Type 0} {o : Ops F} (l : Laws o) where
   comb-zeros [] (c ∷ cs) = refl
   comb-zeros (b ∷ bs) (c ∷ cs) = ap (λ w. zero * b + w) (comb-zeros bs cs) ∙ simp (ring, l)
 
+  -- Zeros are fixed.
   pub fixed-zeros : (cs : List F) → All (Fixed o) (map (λ _. zero) cs)
   fixed-zeros [] = tt
   fixed-zeros (c ∷ cs) = (Basics.fixed-zero l, fixed-zeros cs)
 
+  -- Independent locators are not zero.
   pub independent-nonzero : (b : F) (bs : List F) → Independent o (b ∷ bs) → b ≢ zero
   independent-nonzero b bs ind e =
       Basics.one-zero l (ind (one ∷ map (λ _. zero) bs) (ap suc (length-map bs (λ _. zero))) (Basics.fixed-one l, fixed-zeros bs) sum .0)
@@ -92,6 +99,7 @@ module _ {F : Type 0} {o : Ops F} (l : Laws o) where
   abbrev pub ratio : F → F → F
   ratio a b = step o a b * inv b
 
+  -- That is so.
   pub ratio-root : (a b : F) → b ≢ zero → less (ratio a b) a b ≡ zero
   ratio-root a b n = go
     where
@@ -102,6 +110,7 @@ module _ {F : Type 0} {o : Ops F} (l : Laws o) where
   less-zero : (a b a′ v : F) → less (ratio a b) a′ v ≡ zero → twist v * a′ ≡ twist b * a * inv b * v
   less-zero a b a′ v e = Basics.equal-of-sub l (twist v * a′) (twist b * a * inv b * v) e
 
+  -- In the block of b, what goes to zero is a fixed multiple of b.
   pub kernel-fixed : (a b v : F) → a ≢ zero → b ≢ zero → less (ratio a b) a v ≡ zero → Fixed o (v * inv b)
   kernel-fixed a b v na n e =
       Basics.twist-mul l v (inv b) ∙ ap (λ w. w * twist (inv b)) once ∙ regroup (twist b) (inv b * v) (twist (inv b))
@@ -113,6 +122,7 @@ module _ {F : Type 0} {o : Ops F} (l : Laws o) where
       regroup : (x y z : F) → x * y * z ≡ x * z * y
       regroup x y z = simp (ring, l)
 
+  -- In another block it makes the parameters conjugate.
   kernel-conjugate : (a b a′ v : F) → b ≢ zero → v ≢ zero → less (ratio a b) a′ v ≡ zero → Conjugate o a a′
   kernel-conjugate a b a′ v n m e = (b * inv v, Basics.mul-nonzero l b (inv v) n (Basics.inv-nonzero l v m), proof)
     where
@@ -160,14 +170,17 @@ module _ {F : Type 0} {o : Ops F} (l : Laws o) where
   abbrev lower : F → Block F → Block F
   lower c (block a bs) = block a (map (less c a) bs)
 
+  -- Their parameters are the same.
   lower-apart : (c a : F) (blocks : List (Block F)) → All (Apart o a) blocks → All (Apart o a) (map (lower c) blocks)
   lower-apart c a [] h = tt
   lower-apart c a (block a′ bs ∷ blocks) h = (h .0, lower-apart c a blocks (h .1))
 
+  -- There are as many locators.
   lower-places : (c : F) (blocks : List (Block F)) → places (map (lower c) blocks) ≡ places blocks
   lower-places c [] = refl
   lower-places c (block a bs ∷ blocks) = rw (length-map bs (less c a), lower-places c blocks)
 
+  -- They are lawful again.
   lower-lawful : (a b : F) (blocks : List (Block F)) → b ≢ zero → All (Apart o a) blocks → Lawful o blocks → Lawful o (map (lower (ratio a b)) blocks)
   lower-lawful a b [] n apart h = tt
   lower-lawful a b (block a′ bs ∷ blocks) n apart h =
@@ -180,6 +193,7 @@ module _ {F : Type 0} {o : Ops F} (l : Laws o) where
   lower-values c a x f r (b ∷ bs) h =
       (sym (divide c a x f b ∙ ap (λ w. eval o a (quotient c f) (less c a b) + w * b) r ∙ simp (ring, l)) ∙ h .0, lower-values c a x f r bs (h .1))
 
+  -- The same of all blocks.
   lower-vanishes : (c x : F) (f : List F) → rest c (x ∷ f) ≡ zero → (blocks : List (Block F)) → All (Vanishing (x ∷ f)) blocks
       → All (Vanishing (quotient c f)) (map (lower c) blocks)
   lower-vanishes c x f r [] h = tt
@@ -192,9 +206,11 @@ module _ {F : Type 0} {o : Ops F} (l : Laws o) where
       (sym (divide (ratio a b) a x f b ∙ ap (λ w. eval o a (quotient (ratio a b) f) w + rest (ratio a b) (x ∷ f) * b) (ratio-root a b n)
       ∙ ap (λ w. w + rest (ratio a b) (x ∷ f) * b) (Evaluation.eval-zero l a (quotient (ratio a b) f)) ∙ Basics.zero-add l _) ∙ e)
 
+  -- The root count for at most n coefficients.
   Few : ℕ → Type 0
   Few n = (blocks : List (Block F)) (f : List F) → length f ≤ n → Lawful o blocks → length f ≤ places blocks → All (Vanishing f) blocks → All (Zero o) f
 
+  -- The first locator of the first block that has one takes a coefficient away.
   few-more : (n : ℕ) → Few n → (x : F) (f : List F) → length f ≤ n → (blocks : List (Block F)) → Lawful o blocks → suc (length f) ≤ places blocks
       → All (Vanishing (x ∷ f)) blocks → All (Zero o) (x ∷ f)
   unfolding Few
@@ -214,6 +230,7 @@ module _ {F : Type 0} {o : Ops F} (l : Laws o) where
       r : rest (ratio a b) (x ∷ f) ≡ zero
       r = root-rest a b x f nb (v .0 .0)
 
+  -- By induction on n.
   few : (n : ℕ) → Few n
   unfolding Few
   few ℕ.zero blocks [] m h k v = tt
@@ -237,5 +254,6 @@ module _ {F : Type 0} {o : Ops F} (l : Laws o) where
   unfolding Few
   roots-few blocks f h k v = few (length f) blocks f (omega arith) h k (by-blocks f blocks v)
 
+  -- By the sum that readers see.
   pub root-count : Root-count o
   root-count = subst (λ v. (blocks : List (Block F)) (f : List F) → Lawful o blocks → length f ≤ places blocks → All (λ t. v (t .0) f (t .1) ≡ zero) (points blocks) → All (Zero o) f) (Evaluation.both-values l) roots-few

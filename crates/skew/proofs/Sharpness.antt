@@ -5,7 +5,7 @@
 use mathlib.Core.Path.{_≡_, refl, sym, _∙_, ap, subst}
 use mathlib.Core.Logic.{_≢_}
 use mathlib.Core.List.{List, [], _∷_, map, _++_, append-nil}
-use Prim.Native.Nat.{ℕ, suc, _≤_, max}
+use Prim.Native.Nat.{ℕ, _≤_}
 use native.Mathlib.Omega.{arith}
 use lib.ListN.{length, length-map, length-append, getD, drop}
 use Rattle.fields.specs.Lists.{All}
@@ -26,9 +26,11 @@ use Rattle.skew.proofs.Vanishing
 use Rattle.skew.proofs.Vanishing.{linear}
 
 module _ {F : Type 0} (o : Ops F) where
+  -- f vanishes at t.
   abbrev pub Nil : List F → F × F → Type 0
   Nil f t = eval o (t .0) f (t .1) ≡ o .zero
 
+  -- Only zero vanishes at all points with so few coefficients.
   abbrev pub Sharp : List (F × F) → Type 0
   Sharp pts = (f : List F) → length f ≤ length pts → All (Nil f) pts → All (Zero o) f
 
@@ -37,6 +39,7 @@ module _ {F : Type 0} {o : Ops F} (l : Laws o) where
 
   infixl 65 _+_
   infixl 70 _*_
+  -- There are as many points as places.
   length-points : (blocks : List (Block F)) → length (points blocks) ≡ places blocks
   length-points [] = refl
   length-points (block a bs ∷ blocks) =
@@ -50,6 +53,7 @@ module _ {F : Type 0} {o : Ops F} (l : Laws o) where
   factor : F → F → List F
   factor a w = linear o (step o a w * inv w)
 
+  -- It takes w to zero.
   factor-root : (a w : F) → eval o a (factor a w) w ≡ zero
   unfolding factor
   factor-root a w = elim (l .same w zero) [ yes z ↦ at-zero z | no n ↦ Vanishing.linear-root l a (step o a w * inv w) w (undo n) ]
@@ -60,6 +64,7 @@ module _ {F : Type 0} {o : Ops F} (l : Laws o) where
       undo : w ≢ zero → step o a w * inv w * w ≡ step o a w
       undo n = Basics.mul-assoc l (step o a w) (inv w) w ∙ ap (λ x. step o a w * x) (Basics.inv-mul l w n) ∙ Basics.mul-one l _
 
+  -- One more in the middle.
   insert : (P : F × F → Type 0) (xs : List (F × F)) (t : F × F) (ys : List (F × F)) → P t → All P (xs ++ ys) → All P (xs ++ t ∷ ys)
   insert P [] t ys p h = (p, h)
   insert P (x ∷ xs) t ys p h = (h .0, insert P xs t ys p (h .1))
@@ -88,15 +93,19 @@ module _ {F : Type 0} {o : Ops F} (l : Laws o) where
   pub monic-seen : (pts : List (F × F)) (m : List F) → Sharp o pts → Monic o m → length m ≤ length pts → All (Nil o m) pts → ⊥
   monic-seen pts m h top k v = Basics.one-zero l (sym (top .2) ∙ Multiplication.coef-of l m (h m k v) (top .0))
 
+  -- Equal lists have equal heads.
   head-same : {x y : F} {xs ys : List F} → x ∷ xs ≡ y ∷ ys → x ≡ y
   head-same e = ap (λ ws. getD ws 0 zero) e
 
+  -- And equal tails.
   tail-same : {x y : F} {xs ys : List F} → x ∷ xs ≡ y ∷ ys → xs ≡ ys
   tail-same e = ap (drop 1) e
 
+  -- f less g.
   minus : List F → List F → List F
   minus f g = plus o f (scale o (neg one) g)
 
+  -- The difference vanishes where the values agree.
   at-minus : (f g : List F) (t : F × F) → eval o (t .0) f (t .1) ≡ eval o (t .0) g (t .1) → Nil o (minus f g) t
   unfolding minus
   at-minus f g t e =
@@ -106,10 +115,12 @@ module _ {F : Type 0} {o : Ops F} (l : Laws o) where
       gone : (x : F) → x + neg one * x ≡ zero
       gone x = simp (ring, l)
 
+  -- And so at all points.
   minus-nil : (f g : List F) (pts : List (F × F)) → map (λ t. eval o (t .0) f (t .1)) pts ≡ map (λ t. eval o (t .0) g (t .1)) pts → All (Nil o (minus f g)) pts
   minus-nil f g [] e = tt
   minus-nil f g (t ∷ pts) e = (at-minus f g t (head-same e), minus-nil f g pts (tail-same e))
 
+  -- With a difference of zero the coefficients are the same.
   minus-same : (f g : List F) → All (Zero o) (minus f g) → (i : ℕ) → coef o f i ≡ coef o g i
   unfolding minus
   minus-same f g z i =

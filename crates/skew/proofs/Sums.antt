@@ -1,5 +1,5 @@
 -- Sums of polynomials, and polynomials that have the same coefficients.
-use mathlib.Core.Path.{_≡_, refl, sym, _∙_, ap}
+use mathlib.Core.Path.{_≡_, refl, _∙_, ap}
 use mathlib.Core.List.{List, [], _∷_}
 use Prim.Native.Nat.{ℕ, suc}
 use native.Mathlib.Omega.{arith}
@@ -8,14 +8,17 @@ use Rattle.fields.specs.Field.{Ops, Laws, plus, scale}
 use Rattle.fields.proofs.Basics
 use Rattle.skew.specs.Products.{coef}
 
+-- Lists with the same head and tail are the same.
 pub cons-path : {F : Type 0} {x y : F} {xs ys : List F} → x ≡ y → xs ≡ ys → x ∷ xs ≡ y ∷ ys
 cons-path {F} {x} {y} {xs} {ys} p q = ap (λ w. w ∷ xs) p ∙ ap (λ w. y ∷ w) q
 
 module _ {F : Type 0} {o : Ops F} (l : Laws o) where
+  -- A sum with nothing.
   pub plus-nil : (f : List F) → plus o f [] ≡ f
   plus-nil [] = refl
   plus-nil (x ∷ f) = refl
 
+  -- Sums may be grouped at will.
   pub plus-assoc : (f g h : List F) → plus o (plus o f g) h ≡ plus o f (plus o g h)
   plus-assoc [] g h = refl
   plus-assoc (x ∷ f) [] h = refl

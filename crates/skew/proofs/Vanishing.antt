@@ -3,17 +3,17 @@
 --   linear c         x - c
 --   Monic-to o n f   f has n + 1 coefficients, the last of which is one
 use mathlib.Core.Path.{_≡_, refl, sym, _∙_, ap, subst}
-use mathlib.Core.Logic.{_≢_, _⊎_, inl, inr}
+use mathlib.Core.Logic.{_≢_, inl, inr}
 use mathlib.Core.List.{List, [], _∷_, map}
-use Prim.Native.Nat.{ℕ, suc, _≤_, _<_, _-_, _+_ as _+ℕ_}
+use Prim.Native.Nat.{ℕ, suc, _≤_, _<_, _-_}
 use native.Mathlib.Omega.{arith}
-use lib.ListN.{length, length-map, List·getD-eq-default}
+use lib.ListN.{length, List·getD-eq-default}
 use Rattle.std.proofs.shelf.Tests.{cases-lt}
 use Rattle.fields.specs.Lists.{All}
 use Rattle.fields.specs.Field.{Ops, Laws, Zero, Fixed, comb}
 use Rattle.fields.proofs.Basics
 use Rattle.fields.proofs.Basics.{ring}
-use Rattle.skew.specs.Values.{step, eval, value}
+use Rattle.skew.specs.Values.{step, eval}
 use Rattle.skew.specs.Products.{coef, Product}
 use Rattle.skew.specs.Annihilators.{Among, Monic, Annihilator}
 use Rattle.skew.proofs.Evaluation
@@ -21,6 +21,7 @@ use Rattle.skew.proofs.Multiplication
 use Rattle.skew.proofs.Multiplication.{shift, times}
 
 module _ {F : Type 0} (o : Ops F) where
+  -- x - c.
   abbrev pub linear : F → List F
   linear c = o .neg c ∷ o .one ∷ []
 
@@ -50,15 +51,19 @@ module _ {F : Type 0} {o : Ops F} (l : Laws o) where
 
   -- A product p of x - c and g.
   module _ (c : F) (g p : List F) (h : Product o (linear o c) g p) where
+    -- Its value by the values of its factors.
     applied : (a b : F) → eval o a p b ≡ eval o a (linear o c) (eval o a g b)
     applied = subst (λ v. (a b : F) → v a p b ≡ v a (linear o c) (v a g b)) (sym (Evaluation.both-values l)) (h .applies)
 
+    -- It vanishes where x - c takes the value of g to zero.
     pub product-there : (a b : F) → c * eval o a g b ≡ step o a (eval o a g b) → eval o a p b ≡ zero
     product-there a b e = applied a b ∙ linear-root a c (eval o a g b) e
 
+    -- It vanishes where g does.
     pub product-keeps : (a b : F) → eval o a g b ≡ zero → eval o a p b ≡ zero
     product-keeps a b e = applied a b ∙ ap (eval o a (linear o c)) e ∙ Evaluation.eval-zero l a (linear o c)
 
+    -- It is monic where g is.
     pub product-monic : length p ≤ suc (length g) → Monic o g → Monic o p
     product-monic k m = (suc (m .0), omega (arith, m .1, past p (suc (m .0)) (λ z. Basics.one-zero l (sym top ∙ z))), top)
       where
@@ -77,6 +82,7 @@ module _ {F : Type 0} {o : Ops F} (l : Laws o) where
   among P x (y ∷ ys) (inl e) k = subst P (sym e) (k .0)
   among P x (y ∷ ys) (inr h) k = among P x ys h (k .1)
 
+  -- The values at points that are among those.
   images : (f : List F) (pts : List (F × F)) (a : F) (es : List F) → All (λ t. eval o (t .0) f (t .1) ≡ zero) pts → All (λ e. Among (a, e) pts) es → All (Zero o) (map (eval o a f) es)
   images f pts a [] h k = tt
   images f pts a (e ∷ es) h k = (among (λ t. eval o (t .0) f (t .1) ≡ zero) (a, e) pts (k .0) h, images f pts a es h (k .1))
@@ -86,6 +92,7 @@ module _ {F : Type 0} {o : Ops F} (l : Laws o) where
       → eval o a f (comb o cs es) ≡ zero
   spanned f pts h a cs es p k = sym (Evaluation.comb-map l (eval o a f) (Evaluation.eval-linear l a f) cs es p) ∙ comb-null cs (map (eval o a f) es) (images f pts a es h k)
 
+  -- Together: what the annihilator promises.
   pub is-annihilator : (pts : List (F × F)) (f : List F) → Monic o f → length f ≤ suc (length pts) → All (λ t. eval o (t .0) f (t .1) ≡ zero) pts → Annihilator o pts f
   is-annihilator pts f m d h = record {
     monic = m;

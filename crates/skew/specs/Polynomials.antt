@@ -7,7 +7,7 @@
 --   Resized f n r          r has the first n coefficients of f, with zeros behind
 --   Multiplied m f g p     p is the product of f and g, in codes, as long as a product is
 use mathlib.Core.Path.{_≡_}
-use mathlib.Core.List.{List, [], _∷_, map}
+use mathlib.Core.List.{List, _∷_, map}
 use Prim.Native.Nat.{ℕ, _+_, _-_, _<_, _≤_, min}
 use lib.ListN.{length, getD, take}
 use Rattle.fields.specs.Field.{plus, scale}
