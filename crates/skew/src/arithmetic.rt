@@ -15,7 +15,7 @@ fn larger(a: usize, b: usize) -> usize
     if a < b { b } else { a }
 }
 
-// c times f plus d times g.
+// c times f plus d times g, as long as the longer of the two.
 pub fn combine<K: Kind>(kind: &K, c: u8, f: &Polynomial, d: u8, g: &Polynomial) -> Polynomial
     ensures { λ r. let m = meaning (now (kind .entry)) in ⌜ coefficients r ≡ codes (combined m c (coefficients (now (f .entry))) d (coefficients (now (g .entry)))) ⌝ }
 {

@@ -13,8 +13,11 @@ mod pairing;
 mod points;
 mod polynomial;
 mod quotients;
+#[cfg(test)]
+mod tests;
 
 pub use annihilators::annihilator;
+pub use arithmetic::combine;
 pub use arithmetic::product;
 pub use engine::pairs;
 pub use newton::interpolate;
