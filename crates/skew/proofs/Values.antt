@@ -1,5 +1,5 @@
 -- The value of a skew polynomial as a sum, and by recursion: both are the same.
-use mathlib.Core.Path.{_≡_, refl, sym, _∙_, ap, fun-ext}
+use mathlib.Core.Path.{_≡_, refl, sym, _∙_, ap}
 use mathlib.Core.List.{List, [], _∷_}
 use Prim.Native.Nat.{ℕ, suc}
 use Rattle.fields.specs.Field.{Ops, Laws}
@@ -30,5 +30,6 @@ module _ {F : Type 0} {o : Ops F} (l : Laws o) where
   eval-from a (c ∷ f) u h =
       ap (λ w. c * u 0 + eval o a f w) (h 0) ∙ ap (λ w. c * u 0 + w) (eval-from a f (λ i. u (suc i)) (λ i. h (suc i)))
 
+  -- The recursion gives the sum of the definition.
   pub eval-value : (a : F) (f : List F) (b : F) → eval o a f b ≡ value o a f b
   eval-value a f b = ap (eval o a f) (sym (Basics.mul-one l b)) ∙ eval-from a f (λ i. twisted o i b * norm o i a) (term-step a b)

@@ -1,5 +1,5 @@
 -- The loop of `value`, over plain numbers.
-use mathlib.Core.Path.{_≡_, refl, sym, ap, _∙_}
+use mathlib.Core.Path.{_≡_, ap, _∙_}
 use mathlib.Core.List.{List, [], _∷_}
 use Prim.Native.Nat.{ℕ, _+_, _<_, _≤_}
 use lib.ListN.{length, getD, drop}
@@ -17,12 +17,14 @@ pub record Valuing (m : Meaning) (f : List ℕ) (a b : ℕ) (i total x : ℕ) : 
   pub whole : ops m .add (elem m total) (eval (ops m) (elem m a) (elems m (drop i f)) (elem m x)) ≡ eval (ops m) (elem m a) (elems m f) (elem m b)
 
 module _ {m : Meaning} (l : Laws m) where
+  -- Before the first coefficient.
   pub starts : (f : List ℕ) (a b : ℕ) → Valuing m f a b 0 0 b
   starts f a b = record {
     counts = Carrier.counts l 0 (Carrier.zero-code l);
     whole = ap (λ w. ops m .add w (eval (ops m) (elem m a) (elems m f) (elem m b))) (Carrier.zero-is m) ∙ Basics.zero-add (Carrier.ops-laws l) _;
   }
 
+  -- One coefficient more.
   pub goes-on : {f : List ℕ} {a b i t x p t′ y x′ : ℕ} → i < length f → Valuing m f a b i t x
       → p ≡ m .product (clip m (getD f i 0)) (clip m x) → t′ ≡ m .sum (clip m t) (clip m p) → y ≡ m .twist (clip m x) → x′ ≡ m .product (clip m y) (clip m a)
       → Valuing m f a b (i + 1) t′ x′
@@ -35,6 +37,7 @@ module _ {m : Meaning} (l : Laws m) where
       let r = Basics.add-assoc (Carrier.ops-laws l) (elem m t) (ops m .mul (elem m (getD f i 0)) (elem m x)) (eval (ops m) (elem m a) (elems m (drop (i + 1) f)) (elem m x′)) in
       record { counts = Carrier.sum-counts l t p et; whole = cc }
 
+  -- After the last one the total is the value.
   pub ends : {f : List ℕ} {a b i t x : ℕ} → length f ≤ i → Valuing m f a b i t x → t ≡ eval-code m f a b
   ends {f} {a} {b} {i} {t} {x} h v =
       let d : elems m (drop i f) ≡ [] = ap (elems m) (drop-all i f h) in
@@ -42,5 +45,6 @@ module _ {m : Meaning} (l : Laws m) where
       let e : elem m t ≡ eval (ops m) (elem m a) (elems m f) (elem m b) = cc in
       Carrier.code-elem m t (v .counts) ∙ ap (λ (y : Elem m). y .code) e
 
+  -- And so the sum of the definition.
   pub ends-sum : {f : List ℕ} {a b i t x : ℕ} → length f ≤ i → Valuing m f a b i t x → t ≡ value-code m f a b
   ends-sum {f} {a} {b} h v = ends h v ∙ ap (λ (y : Elem m). y .code) (eval-value (Carrier.ops-laws l) (elem m a) (elems m f) (elem m b))

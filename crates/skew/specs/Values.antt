@@ -7,12 +7,11 @@
 --   step o a b        what one more power of the variable does to b: (b twisted) × a
 --   eval o a f b      the value by recursion; equal to `value`, and what proofs use
 --   value-code, eval-code     both of codes, over a kind's meaning
-use mathlib.Core.Path.{_≡_}
 use mathlib.Core.List.{List, [], _∷_}
 use Prim.Native.Nat.{ℕ, suc}
-use Rattle.fields.specs.Field.{Ops, Laws}
+use Rattle.fields.specs.Field.{Ops}
 use Rattle.fields.specs.Meaning.{Meaning}
-use Rattle.fields.specs.Elements.{Elem, elem, elems, ops}
+use Rattle.fields.specs.Elements.{elem, elems, ops}
 
 module _ {F : Type 0} (o : Ops F) where
   open Ops o using (zero, one, add as _+_, mul as _*_, twist)
