@@ -89,7 +89,7 @@ class Mirror:
     def __init__(self, kind):
         self.number = kind.number + 128 if kind.number < 128 else kind.number - 128
         self.size, self.basis = kind.size, kind.basis
-        self.sum, self.product, self.opposite, self.inverse, self.digits = kind.sum, kind.product, kind.opposite, kind.inverse, kind.digits
+        self.sum, self.product, self.opposite, self.inverse, self.digits, self.clip = kind.sum, kind.product, kind.opposite, kind.inverse, kind.digits, kind.clip
         self.twist, self.untwist = kind.untwist, kind.twist
 
 

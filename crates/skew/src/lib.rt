@@ -13,8 +13,6 @@ mod pairing;
 mod points;
 mod polynomial;
 mod quotients;
-#[cfg(test)]
-mod tests;
 
 pub use annihilators::annihilator;
 pub use arithmetic::combine;

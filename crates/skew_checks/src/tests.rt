@@ -1,9 +1,18 @@
 // What the functions give on examples over the integers modulo 13, whose twist does nothing, and so over their mirror.
-use super::*;
+use fields::Kind;
 use fields::Mirror;
 use fields::MirrorKind;
 use fields::Mod13;
 use fields::Mod13Kind;
+use skew::Point;
+use skew::Polynomial;
+use skew::Site;
+use skew::annihilator;
+use skew::interpolate;
+use skew::left_quotient;
+use skew::pairs;
+use skew::product;
+use skew::value;
 use std::test::*;
 
 const LAWFUL: [Point; 4] = [
