@@ -27,6 +27,7 @@ use Rattle.skew.specs.Interpolation.{values, Unlawful, Interpolated, Corrected
 use Rattle.skew.proofs.Evaluation
 use Rattle.skew.proofs.Everywhere.{all-append}
 use Rattle.skew.proofs.Sums
+use Rattle.skew.proofs.RootCount
 use Rattle.skew.proofs.Sharpness
 use Rattle.skew.proofs.Sharpness.{Sharp}
 use Rattle.skew.proofs.Growing.{Growing, inverse-some, inverse-none, annihilator-starts, annihilator-goes-on}
@@ -196,6 +197,7 @@ module _ {m : Meaning} (l : Laws m) where
         proper = s .proper;
         size = omega (arith, s .size);
         has = has;
+        roots = RootCount.root-count laws;
         only = λ blocks e law q lq hq.
             Sharpness.values-tell laws (places m ps) q (elems m f) (subst (Sharp (ops m)) e (Sharpness.sharp-lawful laws blocks law))
             (omega (arith, length-map {B = Elem m × Elem m} ps (place m))) (omega (arith, length-map {B = Elem m × Elem m} ps (place m), length-map f (elem m), s .size))

@@ -13,7 +13,7 @@ use Rattle.fields.specs.Field.{Ops}
 use Rattle.fields.specs.Meaning.{Meaning}
 use Rattle.fields.specs.Elements.{Elem, elem, elems, ops}
 use Rattle.skew.specs.declared.points.Point.{Point}
-use Rattle.skew.specs.Roots.{Block, points, Lawful, at, Vanishes}
+use Rattle.skew.specs.Roots.{Block, points, Lawful, at, Vanishes, Root-count}
 use Rattle.skew.specs.Products.{coef}
 use Rattle.skew.specs.Polynomials.{Codes}
 use Rattle.skew.specs.Annihilators.{place, places}
@@ -29,7 +29,8 @@ pub record Interpolated (m : Meaning) (ps : List Point) (vs f : List ℕ) : Type
   pub proper : Codes m f
   pub size : length f ≤ length ps
   pub has : values (ops m) (elems m f) (places m ps) ≡ elems m vs
-  -- by the root count
+  -- the root count; by it, where the points are lawful, no other polynomial has these values
+  pub roots : Root-count (ops m)
   pub only : (blocks : List (Block (Elem m))) → points blocks ≡ places m ps → Lawful (ops m) blocks
       → (g : List (Elem m)) → length g ≤ length ps → values (ops m) g (places m ps) ≡ elems m vs → (i : ℕ) → coef (ops m) g i ≡ coef (ops m) (elems m f) i
 
