@@ -1,4 +1,8 @@
 -- The steps and the loop of `pairs`, over plain values.
+--
+--   both f g               a pair of two lists
+--   lift-is, cross-is      what `raised` and `crossed` answer, in elements, and how long it is
+--   stays, firsts, seconds the three turns of a step keep what is held
 use mathlib.Core.Path.{_≡_, sym, ap, _∙_, subst}
 use mathlib.Core.Logic.{_≢_, _⊎_, inl, inr}
 use mathlib.Core.List.{List, [], _∷_, _++_}

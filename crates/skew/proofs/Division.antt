@@ -1,5 +1,8 @@
 -- Division on the left, over any field with an automorphism: how one coefficient more changes a product, and that places d to
 -- d + k - 1 of a product with a polynomial of degree d tell its k coefficients.
+--
+--   coefficient-more, coefficient-same, coefficient-null    what one coefficient of q adds to p × q
+--   quotient-only                                           no two quotients agree with one dividend
 use mathlib.Core.Path.{_≡_, sym, _∙_, ap}
 use mathlib.Core.Logic.{_≢_, inl, inr}
 use mathlib.Core.List.{List}

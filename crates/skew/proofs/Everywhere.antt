@@ -1,4 +1,7 @@
--- What holds of each element of a list: of the parts of a joined list, and of a mapped one.
+-- What holds of each element of a list.
+--
+--   all-left, all-right, all-append    of the parts of a joined list, and of the whole
+--   all-map, all-so                    of a mapped list; and what follows from it
 use mathlib.Core.List.{List, [], _∷_, map, _++_}
 use Rattle.fields.specs.Lists.{All}
 

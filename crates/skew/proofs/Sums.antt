@@ -1,4 +1,7 @@
 -- Sums of polynomials, and polynomials that have the same coefficients.
+--
+--   plus-nil, plus-assoc    a sum with nothing, and sums grouped at will
+--   same-coefs              lists of one length with the same coefficients are the same
 use mathlib.Core.Path.{_≡_, refl, _∙_, ap}
 use mathlib.Core.List.{List, [], _∷_}
 use Prim.Native.Nat.{ℕ, suc}

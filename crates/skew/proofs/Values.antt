@@ -1,4 +1,7 @@
 -- The value of a skew polynomial as a sum, and by recursion: both are the same.
+--
+--   norm-step, term-step    the next norm, and the next term of the sum, by one step
+--   eval-value              the recursion gives the sum
 use mathlib.Core.Path.{_≡_, refl, sym, _∙_, ap}
 use mathlib.Core.List.{List, [], _∷_}
 use Prim.Native.Nat.{ℕ, suc}

@@ -1,4 +1,6 @@
 -- The loop of `value`, over plain numbers.
+--
+--   Valuing m f a b i t x    after i coefficients: the total t, and the value of the others at x, make the value of f at b
 use mathlib.Core.Path.{_≡_, ap, _∙_}
 use mathlib.Core.List.{List, [], _∷_}
 use Prim.Native.Nat.{ℕ, _+_, _<_, _≤_}

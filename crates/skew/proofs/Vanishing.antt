@@ -1,7 +1,8 @@
 -- Polynomials that vanish at points: the factor for one more point, monic polynomials, and what vanishes at combinations.
 --
---   linear c         x - c
---   Monic-to o n f   f has n + 1 coefficients, the last of which is one
+--   linear o c    x - c; where c × w is what x takes w to, it takes w to zero
+--   highest, product-monic    multiplied by it from the left, a monic polynomial stays monic
+--   is-annihilator            what vanishes at points vanishes at their combinations with fixed coefficients
 use mathlib.Core.Path.{_≡_, refl, sym, _∙_, ap, subst}
 use mathlib.Core.Logic.{_≢_, inl, inr}
 use mathlib.Core.List.{List, [], _∷_, map}

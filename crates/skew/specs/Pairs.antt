@@ -5,6 +5,7 @@
 --   Carried o k ps A B a b     both pairs vanish at each spot; A0 has degree a, and A1 is zero or has degree at most a - k; B1 has
 --                              degree b, and B0 has degree at most b + k - 1; a + b is at most the number of spots
 --   spot, spots, two           the same of the program's sites and pairs
+--   Short n q                  no polynomial of q has more than n coefficients
 --   Starts s                   the pairs (1, 0) and (0, 1)
 --   Held m k ps s              the pairs of s are so carried, and no polynomial has more coefficients than spots, plus one
 --   Turned, Raised, Crossed    what the parts of one step promise

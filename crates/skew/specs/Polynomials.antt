@@ -5,7 +5,7 @@
 --   combined m c f d g     c times f plus d times g
 --   raised m c g           (x - c) times g
 --   Resized f n r          r has the first n coefficients of f, with zeros behind
---   Multiplied m f g p     p is the product of f and g, in codes, as long as a product is
+--   Multiplied m f g p     p is the product of f and g, in codes, no longer than their product can be
 use mathlib.Core.Path.{_≡_}
 use mathlib.Core.List.{List, _∷_, map}
 use Prim.Native.Nat.{ℕ, _+_, _-_, _<_, _≤_, min}

@@ -4,7 +4,7 @@
 --   total o u n           u 0 + u 1 + .. up to u (n - 1)
 --   coefficient o f g l   the sum over i + j = l of f_i × (g_j twisted i times)
 --   Below o n f           all coefficients of f from n on are zero
---   Degree o f n          coefficient n of f is not zero, and all above it are
+--   Degree o f n          coefficient n of f is not zero, and all above it are zero
 --   Product o f g p       what a product p of f and g keeps
 use mathlib.Core.Path.{_≡_}
 use mathlib.Core.Logic.{_≢_}
