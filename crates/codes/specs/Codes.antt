@@ -20,7 +20,7 @@ use Rattle.skew.specs.Polynomials.{Codes}
 use Rattle.skew.specs.Annihilators.{places}
 use Rattle.skew.specs.Interpolation.{values}
 use Rattle.codes.specs.declared.shape.Code.{Code}
-use Rattle.codes.specs.Fixed.{items, stops}
+use Rattle.codes.specs.Holdings.{held, stops}
 
 abbrev pub pts : (m : Meaning) → Code → List (Elem m × Elem m)
 pts m c = places m (stops (c .course))
@@ -31,7 +31,7 @@ block-size (block a bs) = length bs
 pub record Lawful-code (m : Meaning) (c : Code) : Type 0 where
   pub blocks : List (Block (Elem m))
   pub grouped : points blocks ≡ pts m c
-  pub sizes : map block-size blocks ≡ items (c .lengths)
+  pub sizes : map block-size blocks ≡ held (c .lengths)
   pub lawful : Lawful (ops m) blocks
   pub some : 1 ≤ c .dimension
   pub most : c .dimension ≤ length (stops (c .course))

@@ -3,9 +3,9 @@ ghost use mathlib.Core.Path.{_≡_};
 ghost use Rattle.std.specs.Options.{Cases};
 ghost use Rattle.fields.specs.Elements.{elems, codes};
 ghost use Rattle.skew.specs.Polynomials.{coefficients};
-ghost use Rattle.codes.specs.Fixed.{items};
+ghost use Rattle.codes.specs.Holdings.{held};
 ghost use Rattle.codes.specs.Codes.{word-of, Read, Unread};
-use super::fixed::Symbols;
+use super::symbols::Symbols;
 use super::shape::Code;
 use fields::Kind;
 use skew::Polynomial;
@@ -14,7 +14,7 @@ use skew::value;
 
 // The codeword of a message: its value at each point, in order.
 pub fn encode<K: Kind>(kind: &K, code: &Code, message: &[u8]) -> Symbols
-    ensures { λ r. let m = meaning (now (kind .entry)) in ⌜ items r ≡ codes (word-of m (now (code .entry)) (elems m (now (message .entry)))) ⌝ }
+    ensures { λ r. let m = meaning (now (kind .entry)) in ⌜ held r ≡ codes (word-of m (now (code .entry)) (elems m (now (message .entry)))) ⌝ }
 {
     let points = code.course.as_slice();
     let mut out = Symbols::empty();

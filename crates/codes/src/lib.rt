@@ -1,11 +1,44 @@
-// Linearized Reed-Solomon codes over any kind of field.
+// Linearized Reed-Solomon codes over any kind of field: the sheet that describes one, the code that it makes, and what is done
+// with a code.
+mod conjugacy;
+mod distance;
+mod duals;
 mod encoding;
-mod fixed;
+mod faults;
+mod making;
+mod ranks;
 mod route;
+mod rows;
+mod sections;
 mod shape;
+mod sheets;
+mod symbols;
+mod syndrome;
+mod weights;
 
+pub use conjugacy::conjugate;
+pub use distance::minimum_distance;
+pub use duals::dual_locators;
+pub use duals::duals_stand;
 pub use encoding::encode;
 pub use encoding::message;
-pub use fixed::Symbols;
+pub use faults::Fault;
+pub use faults::Layer;
+pub use faults::Reason;
+pub use making::set_up;
+pub use ranks::dependent_at;
+pub use ranks::rank;
+pub use ranks::ranks_stand;
 pub use route::Course;
+pub use rows::Form;
+pub use rows::Row;
+pub use rows::WIDTH;
+pub use sections::Section;
 pub use shape::Code;
+pub use sheets::Sheet;
+pub use sheets::read_front;
+pub use sheets::read_sheet;
+pub use sheets::sheets_stand;
+pub use symbols::Symbols;
+pub use syndrome::syndromes;
+pub use weights::weight;

@@ -40,7 +40,7 @@ module _ {F : Type 0} {o : Ops F} (l : Laws o) where
   infixl 65 _+_
   infixl 70 _*_
   -- There are as many points as places.
-  length-points : (blocks : List (Block F)) → length (points blocks) ≡ places blocks
+  pub length-points : (blocks : List (Block F)) → length (points blocks) ≡ places blocks
   length-points [] = refl
   length-points (block a bs ∷ blocks) =
       length-append (map (λ b. (a, b)) bs) (points blocks) ∙ omega (arith, length-map {B = F × F} bs (λ b. (a, b)), length-points blocks)
@@ -50,12 +50,11 @@ module _ {F : Type 0} {o : Ops F} (l : Laws o) where
   sharp-lawful blocks h f k v = RootCount.roots-few l blocks f h (omega (arith, length-points blocks)) v
 
   -- A factor x - c for any value w.
-  factor : F → F → List F
+  abbrev pub factor : F → F → List F
   factor a w = linear o (step o a w * inv w)
 
   -- It takes w to zero.
-  factor-root : (a w : F) → eval o a (factor a w) w ≡ zero
-  unfolding factor
+  pub factor-root : (a w : F) → eval o a (factor a w) w ≡ zero
   factor-root a w = elim (l .same w zero) [ yes z ↦ at-zero z | no n ↦ Vanishing.linear-root l a (step o a w * inv w) w (undo n) ]
     where
       at-zero : w ≡ zero → eval o a (linear o (step o a w * inv w)) w ≡ zero
@@ -70,8 +69,7 @@ module _ {F : Type 0} {o : Ops F} (l : Laws o) where
   insert P (x ∷ xs) t ys p h = (h .0, insert P xs t ys p (h .1))
 
   -- Sharp points without one of them.
-  sharp-less : (xs : List (F × F)) (t : F × F) (ys : List (F × F)) → Sharp o (xs ++ t ∷ ys) → Sharp o (xs ++ ys)
-  unfolding factor
+  pub sharp-less : (xs : List (F × F)) (t : F × F) (ys : List (F × F)) → Sharp o (xs ++ t ∷ ys) → Sharp o (xs ++ ys)
   sharp-less xs t ys h f k v =
       Multiplication.no-divisors l g f (λ z. Basics.one-zero l (z .1 .0))
       (h (times o g f) (omega (arith, Multiplication.length-times l (neg c) (one ∷ []) f, length-append xs (t ∷ ys), length-append xs ys))
@@ -94,11 +92,11 @@ module _ {F : Type 0} {o : Ops F} (l : Laws o) where
   monic-seen pts m h top k v = Basics.one-zero l (sym (top .2) ∙ Multiplication.coef-of l m (h m k v) (top .0))
 
   -- Equal lists have equal heads.
-  head-same : {x y : F} {xs ys : List F} → x ∷ xs ≡ y ∷ ys → x ≡ y
+  pub head-same : {x y : F} {xs ys : List F} → x ∷ xs ≡ y ∷ ys → x ≡ y
   head-same e = ap (λ ws. getD ws 0 zero) e
 
   -- And equal tails.
-  tail-same : {x y : F} {xs ys : List F} → x ∷ xs ≡ y ∷ ys → xs ≡ ys
+  pub tail-same : {x y : F} {xs ys : List F} → x ∷ xs ≡ y ∷ ys → xs ≡ ys
   tail-same e = ap (drop 1) e
 
   -- f less g.

@@ -23,7 +23,7 @@ module _ {F : Type 0} {o : Ops F} (l : Laws o) where
       ∙ ap (λ w. twist (twisted o i a) * w) (norm-step i a)
 
   -- One step takes the i-th term of the sum to the next.
-  term-step : (a b : F) (i : ℕ) → step o a (twisted o i b * norm o i a) ≡ twisted o (suc i) b * norm o (suc i) a
+  pub term-step : (a b : F) (i : ℕ) → step o a (twisted o i b * norm o i a) ≡ twisted o (suc i) b * norm o (suc i) a
   term-step a b i =
       ap (λ w. w * a) (Basics.twist-mul l (twisted o i b) (norm o i a)) ∙ Basics.mul-assoc l _ _ a ∙ ap (λ w. twist (twisted o i b) * w) (norm-step i a)
 

@@ -2,7 +2,7 @@
 ghost use mathlib.Core.Path.{_≡_};
 ghost use mathlib.Core.List.{[], _∷_, _++_};
 ghost use lib.ListN.{length, take};
-ghost use Rattle.codes.specs.Fixed.{stops};
+ghost use Rattle.codes.specs.Holdings.{stops};
 use super::Course;
 use skew::Point;
 
