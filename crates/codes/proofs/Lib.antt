@@ -24,3 +24,4 @@ pub mod DualCodes
 pub mod Holding
 pub mod Checking
 pub mod DualWeights
+pub mod DualCode

@@ -12,3 +12,4 @@ pub mod Codes
 pub mod Fitness
 pub mod Duals
 pub mod DualAnswers
+pub mod Dualizing

@@ -2,6 +2,7 @@
 // with a code.
 mod conjugacy;
 mod distance;
+mod dualizing;
 mod duals;
 mod encoding;
 mod faults;
@@ -18,6 +19,7 @@ mod weights;
 
 pub use conjugacy::conjugate;
 pub use distance::minimum_distance;
+pub use dualizing::dual;
 pub use duals::dual_locators;
 pub use duals::duals_stand;
 pub use encoding::encode;
