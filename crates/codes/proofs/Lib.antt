@@ -1,0 +1,4 @@
+pub mod Killing
+pub mod Spans
+pub mod Mixing
+pub mod Inserting
