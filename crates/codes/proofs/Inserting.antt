@@ -1,9 +1,8 @@
 -- A row put into a reduced form.
 --
---   mark p marks, before p marks     the place p marked too; how many places before p are marked
+--   before p marks        how many places before p are marked
 --   put q x xs            x put into a list after the first q elements
 --   sweep ks g rows       each row less its element of ks times g
---   clear marks hs v      v less the rows, each times what v has at the row's pivot
 --   left, taken           h cleared by the rows, and what was taken off
 --   g, swept, new         the new row, with one at the place p; the other rows with zero there; all of them
 use mathlib.Core.Path.{_≡_, refl, sym, _∙_, ap, subst}
@@ -12,7 +11,7 @@ use mathlib.Core.Bool.{Bool, true, false}
 use mathlib.Core.List.{List, [], _∷_, map}
 use Prim.Native.Nat.{ℕ, suc, _≤_, max, _+_ as _+ℕ_}
 use native.Mathlib.Omega.{arith}
-use lib.ListN.{length, length-map, drop, getD}
+use lib.ListN.{length, length-map, length-set, drop, getD, set}
 use Rattle.fields.specs.Lists.{All}
 use Rattle.fields.specs.Field.{Ops, Laws, Zero, Fixed, plus, scale, comb}
 use Rattle.fields.proofs.Basics
@@ -23,15 +22,9 @@ use Rattle.skew.proofs.Multiplication
 use Rattle.skew.proofs.Sums
 use Rattle.skew.proofs.Sums.{cons-path}
 use Rattle.codes.specs.Ranks.{pick}
-use Rattle.codes.specs.Reduction.{count, heads, tails, mix, Row, Among-rows, zeros, unit, Pivots, Reduced}
+use Rattle.codes.specs.Reduction.{count, heads, tails, mix, Row, Among-rows, zeros, unit, Pivots, Reduced, clear}
 use Rattle.codes.proofs.Spans
 use Rattle.codes.proofs.Mixing
-
--- The place p is marked.
-abbrev pub mark : ℕ → List Bool → List Bool
-mark p [] = []
-mark ℕ.zero (m ∷ marks) = true ∷ marks
-mark (suc p) (m ∷ marks) = m ∷ mark p marks
 
 -- How many places before p are marked.
 abbrev pub before : ℕ → List Bool → ℕ
@@ -46,17 +39,12 @@ put ℕ.zero x xs = x ∷ xs
 put (suc q) x [] = x ∷ []
 put (suc q) x (y ∷ xs) = y ∷ put q x xs
 
-module _ {F : Type 0} (o : Ops F) where
-  -- v less the rows, each times what v has at the row's pivot.
-  abbrev pub clear : List Bool → List (List F) → List F → List F
-  clear marks hs v = plus o v (map (o .neg) (mix o (length v) hs (pick marks v)))
-
 map-put : {A B : Type 0} (f : A → B) (q : ℕ) (x : A) (xs : List A) → map f (put q x xs) ≡ put q (f x) (map f xs)
 map-put f ℕ.zero x xs = refl
 map-put f (suc q) x [] = refl
 map-put {B = B} f (suc q) x (y ∷ xs) = ap {B = List B} (λ w. f y ∷ w) (map-put f q x xs)
 
-length-put : {A : Type 0} (q : ℕ) (x : A) (xs : List A) → length (put q x xs) ≡ suc (length xs)
+pub length-put : {A : Type 0} (q : ℕ) (x : A) (xs : List A) → length (put q x xs) ≡ suc (length xs)
 length-put ℕ.zero x xs = refl
 length-put (suc q) x [] = refl
 length-put (suc q) x (y ∷ xs) = ap suc (length-put q x xs)
@@ -76,11 +64,6 @@ before-count p [] = omega arith
 before-count ℕ.zero (m ∷ marks) = omega arith
 before-count (suc p) (true ∷ marks) = omega (arith, before-count p marks)
 before-count (suc p) (false ∷ marks) = omega (arith, before-count p marks)
-
-length-mark : (p : ℕ) (marks : List Bool) → length (mark p marks) ≡ length marks
-length-mark p [] = refl
-length-mark ℕ.zero (m ∷ marks) = refl
-length-mark (suc p) (m ∷ marks) = ap suc (length-mark p marks)
 
 module _ {F : Type 0} {o : Ops F} (l : Laws o) where
   open Ops o using (zero, one, add as _+_, mul as _*_, neg, inv, twist)
@@ -206,7 +189,7 @@ module _ {F : Type 0} {o : Ops F} (l : Laws o) where
 
   -- All pivots.
   pivots-new : (p j q : ℕ) (marks : List Bool) (ks g : List F) (rows : List (List F)) → q ≡ j +ℕ before p marks → j +ℕ count marks ≡ length rows → ks ≡ map (λ r. coef o r p) rows
-      → All (Zero o) (pick marks g) → coef o g p ≡ one → Pivots o j marks rows → Pivots o j (mark p marks) (put q g (sweep ks g rows))
+      → All (Zero o) (pick marks g) → coef o g p ≡ one → Pivots o j marks rows → Pivots o j (set marks p true) (put q g (sweep ks g rows))
   pivots-new p j q [] ks g rows e c k z u h = tt
   pivots-new ℕ.zero j q (true ∷ marks) ks g rows e c k z u h = absurd (Basics.one-zero l (sym u ∙ pick-head marks g z .0))
   pivots-new ℕ.zero j q (false ∷ marks) ks g rows e c k z u h =
@@ -221,14 +204,14 @@ module _ {F : Type 0} {o : Ops F} (l : Laws o) where
       let zs = pick-head marks g z in (
         heads-put q ks g rows ∙ ap (λ w. put q w (heads o (sweep ks g rows))) (zs .0) ∙ ap (put q zero) (heads-stay ks g rows n (zs .0) ∙ h .0)
             ∙ put-high q (length rows) j (omega arith) (omega (arith, before-count p marks)) ∙ ap (λ i. unit o i j) (sym (length-new q ks g rows n)),
-        subst (Pivots o (suc j) (mark p marks)) (sym (tails-put q ks g rows))
+        subst (Pivots o (suc j) (set marks p true)) (sym (tails-put q ks g rows))
             (pivots-new p (suc j) q marks ks (drop 1 g) (tails o rows) (omega arith) (omega (arith, length-map rows (drop 1))) (k ∙ entries-tail p rows) (zs .1) (sym (coef-tail g p) ∙ u) (h .1)),
       )
   pivots-new (suc p) j q (false ∷ marks) ks g rows e c k z u h =
-      subst (Pivots o j (mark p marks)) (sym (tails-put q ks g rows))
+      subst (Pivots o j (set marks p true)) (sym (tails-put q ks g rows))
       (pivots-new p j q marks ks (drop 1 g) (tails o rows) (omega arith) (omega (arith, length-map rows (drop 1))) (k ∙ entries-tail p rows) (pick-tail marks g z) (sym (coef-tail g p) ∙ u) h)
 
-  count-mark : (p : ℕ) (marks : List Bool) (g : List F) → length marks ≡ length g → All (Zero o) (pick marks g) → coef o g p ≢ zero → count (mark p marks) ≡ suc (count marks)
+  count-mark : (p : ℕ) (marks : List Bool) (g : List F) → length marks ≡ length g → All (Zero o) (pick marks g) → coef o g p ≢ zero → count (set marks p true) ≡ suc (count marks)
   count-mark p [] [] e z u = absurd (u refl)
   count-mark p [] (x ∷ g) e z u = absurd (omega arith)
   count-mark p (m ∷ marks) [] e z u = absurd (omega arith)
@@ -305,12 +288,7 @@ module _ {F : Type 0} {o : Ops F} (l : Laws o) where
 
     -- A row that is cleared to zero is a sum of the rows.
     pub none-spanned : All (Zero o) left → Among-rows o m rows h
-    none-spanned z = subst (Among-rows o m rows) (sym (zero-plus left taken (length-clear marks rows h ∙ sym (Mixing.length-mix l (length h) rows (pick marks h))) z) ∙ whole) taken-spanned
-      where
-        zero-plus : (u v : List F) → length u ≡ length v → All (Zero o) u → plus o u v ≡ v
-        zero-plus [] v e k = refl
-        zero-plus (x ∷ u) [] e k = absurd (omega arith)
-        zero-plus (x ∷ u) (y ∷ v) e k = cons-path (ap (λ w. w + y) (k .0) ∙ Basics.zero-add l y) (zero-plus u v (omega arith) (k .1))
+    none-spanned z = subst (Among-rows o m rows) (sym (Mixing.zero-plus l left taken (length-clear marks rows h ∙ sym (Mixing.length-mix l (length h) rows (pick marks h))) z) ∙ whole) taken-spanned
 
     -- A row that is a sum of the rows is cleared to zero.
     all-taken : Among-rows o m rows h → All (Zero o) left
@@ -369,14 +347,14 @@ module _ {F : Type 0} {o : Ops F} (l : Laws o) where
       new-rows : All (Row o m) new
       new-rows = all-put (Row o m) (before p marks) g swept (length-g, fixed-g) (swept-rows rows (formed .rows))
 
-      new-pivots : Pivots o 0 (mark p marks) new
+      new-pivots : Pivots o 0 (set marks p true) new
       new-pivots =
-          subst (λ w. Pivots o 0 (mark p marks) (put (before p marks) g w)) (sweep-is p g rows)
+          subst (λ w. Pivots o 0 (set marks p true) (put (before p marks) g w)) (sweep-is p g rows)
           (pivots-new p 0 (before p marks) marks (map (λ r. coef o r p) rows) g rows (omega arith) (omega (arith, formed .full)) refl g-zero g-one (formed .pivots))
 
-      new-formed : Reduced o m (mark p marks) new
+      new-formed : Reduced o m (set marks p true) new
       new-formed = record {
-        size = length-mark p marks ∙ formed .size;
+        size = length-set marks p true ∙ formed .size;
         full = count-mark p marks g (formed .size ∙ sym length-g) g-zero (λ z. Basics.one-zero l (sym g-one ∙ z)) ∙ sym (length-put (before p marks) g swept ∙ ap suc (length-map rows (λ r. plus o r (scale o (neg (coef o r p)) g)) ∙ sym (formed .full)));
         pivots = new-pivots;
         rows = new-rows;
@@ -445,7 +423,7 @@ module _ {F : Type 0} {o : Ops F} (l : Laws o) where
           unscaled (x ∷ v) = cons-path (Basics.mul-inv-cancel l c x n) (unscaled v)
 
       -- The new rows are reduced, h was not spanned, and the new rows span what the old ones span with h.
-      pub put-in : Reduced o m (mark p marks) new × (¬ Among-rows o m rows h) × All (Among-rows o m (h ∷ rows)) new × All (Among-rows o m new) (h ∷ rows)
+      pub put-in : Reduced o m (set marks p true) new × (¬ Among-rows o m rows h) × All (Among-rows o m (h ∷ rows)) new × All (Among-rows o m new) (h ∷ rows)
       put-in = (new-formed, (λ s. n (Multiplication.coef-of l left (all-taken s) p)), new-spanned, (h-spanned, rows-spanned))
 
       -- The place p was not marked.

@@ -2,3 +2,4 @@ pub mod Killing
 pub mod Spans
 pub mod Mixing
 pub mod Inserting
+pub mod Reducing

@@ -183,6 +183,12 @@ module _ {F : Type 0} {o : Ops F} (l : Laws o) where
   all-away [] = tt
   all-away (x ∷ v) = (Basics.add-neg l x, all-away v)
 
+  -- A sum with a row of zeros.
+  pub zero-plus : (u v : List F) → length u ≡ length v → All (Zero o) u → plus o u v ≡ v
+  zero-plus [] v e k = refl
+  zero-plus (x ∷ u) [] e k = absurd (omega arith)
+  zero-plus (x ∷ u) (y ∷ v) e k = cons-path (ap (λ w. w + y) (k .0) ∙ Basics.zero-add l y) (zero-plus u v (omega arith) (k .1))
+
   -- What rows span.
   module _ (n : ℕ) where
     -- Sums.

@@ -7,19 +7,22 @@
 --   count marks        how many are marked
 --   Pivots o j marks hs    at the marked places, one after the other, row j, then row j + 1, and so on, has one, and each other zero
 --   Reduced o n marks hs   as many rows as marks among n places, fixed, with their pivots at the marked places
---   Inserted o n ..    what the insertion of a row answers and leaves
+--   clear o marks hs v     v less the rows, each times what v has at the row's pivot
+--   rows-of m f, In-form m f     the rows of a form, in elements; they are reduced
+--   Inserted m f h r g    what the insertion of a row answers and leaves
 use mathlib.Core.Path.{_≡_}
 use mathlib.Core.Bool.{Bool, true, false}
 use mathlib.Core.List.{List, [], _∷_, map}
-use Prim.Native.Nat.{ℕ, suc}
-use lib.ListN.{length, drop}
+use mathlib.Core.Logic.{_≢_}
+use Prim.Native.Nat.{ℕ, suc, _<_}
+use lib.ListN.{length, drop, getD}
 use Rattle.fields.specs.Lists.{All}
-use Rattle.fields.specs.Field.{Ops, Fixed, comb}
+use Rattle.fields.specs.Field.{Ops, Zero, Fixed, plus, scale, comb}
 use Rattle.fields.specs.Meaning.{Meaning}
-use Rattle.fields.specs.Elements.{Elem, elems, ops}
+use Rattle.fields.specs.Elements.{Elem, elem, elems, ops}
 use Rattle.skew.specs.Products.{coef}
 use Rattle.codes.specs.Ranks.{pick}
-use Rattle.codes.specs.declared.rows.Row as code
+use Rattle.codes.specs.declared.rows.Row.{Row as Row-codes}
 use Rattle.codes.specs.declared.rows.Form.{Form}
 
 abbrev pub count : List Bool → ℕ
@@ -56,6 +59,9 @@ module _ {F : Type 0} (o : Ops F) where
   unit (suc n) ℕ.zero = one ∷ zeros n
   unit (suc n) (suc j) = zero ∷ unit n j
 
+  abbrev pub clear : List Bool → List (List F) → List F → List F
+  clear marks hs v = plus o v (map (o .neg) (mix (length v) hs (pick marks v)))
+
   abbrev pub Pivots : ℕ → List Bool → List (List F) → Type 0
   Pivots j [] hs = Unit {0}
   Pivots j (true ∷ marks) hs = (heads hs ≡ unit (length hs) j) × Pivots (suc j) marks (tails hs)
@@ -67,16 +73,40 @@ pub record Reduced {F : Type 0} (o : Ops F) (n : ℕ) (marks : List Bool) (hs : 
   pub pivots : Pivots o 0 marks hs
   pub rows : All (Row o n) hs
 
--- The rows of a form: those at marked places.
-abbrev pub rows-of : (m : Meaning) → Form → List (List (Elem m))
-rows-of m f = pick (f .marks) (map (λ r. elems m (r .cells)) (f .rows))
+abbrev pub row : (m : Meaning) → Row-codes → List (Elem m)
+row m r = elems m (r .cells)
 
-abbrev pub In-form : Meaning → Form → Type 0
-In-form m f = Reduced (ops m) 8 (f .marks) (rows-of m f)
+-- What stands at no place of a list of rows.
+abbrev pub no-row : Row-codes
+no-row = record { cells = [] }
+
+-- Those at marked places.
+abbrev pub rows-of : (m : Meaning) → Form → List (List (Elem m))
+rows-of m f = pick (f .marks) (map (row m) (f .rows))
+
+-- The place p of a row is not zero, and i is the inverse of what stands there.
+pub record Pivot-at (m : Meaning) (h : List (Elem m)) (p i : ℕ) : Type 0 where
+  pub low : p < 8
+  pub nonzero : coef (ops m) h p ≢ ops m .zero
+  pub inverse : elem m i ≡ ops m .inv (coef (ops m) h p)
+
+-- A row less its entry at the place p times h.
+abbrev pub less : (m : Meaning) → ℕ → List (Elem m) → List (Elem m) → List (Elem m)
+less m p h r = plus (ops m) r (scale (ops m) (ops m .neg (coef (ops m) r p)) h)
+
+-- g is f with each row made zero at the place p by the row h, also those at places that are not marked.
+pub record Swept (m : Meaning) (f : Form) (p : ℕ) (h : List (Elem m)) (g : Form) : Type 0 where
+  pub marks : g .marks ≡ f .marks
+  pub size : length (g .rows) ≡ length (f .rows)
+  pub rows : (k : ℕ) → k < 8 → row m (getD (g .rows) k no-row) ≡ less m p h (row m (getD (f .rows) k no-row))
+
+pub record In-form (m : Meaning) (f : Form) : Type 0 where
+  pub room : length (f .rows) ≡ 8
+  pub reduced : Reduced (ops m) 8 (f .marks) (rows-of m f)
 
 -- Where h is spanned already nothing is changed; else the new rows are again reduced, and span what the old ones span with h.
 abbrev pub Inserted : (m : Meaning) → Form → List (Elem m) → Bool → Form → Type 0
 Inserted m f h false g = (g ≡ f) × Among-rows (ops m) 8 (rows-of m f) h
 Inserted m f h true g =
-    In-form m g × (¬ Among-rows (ops m) 8 (rows-of m f) h)
+    In-form m g × (length (rows-of m g) ≡ suc (length (rows-of m f))) × (¬ Among-rows (ops m) 8 (rows-of m f) h)
     × All (Among-rows (ops m) 8 (h ∷ rows-of m f)) (rows-of m g) × All (Among-rows (ops m) 8 (rows-of m g)) (h ∷ rows-of m f)

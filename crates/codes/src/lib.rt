@@ -3,3 +3,4 @@ mod rows;
 
 pub use rows::Form;
 pub use rows::Row;
+pub use rows::WIDTH;

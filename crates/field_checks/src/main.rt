@@ -5,10 +5,10 @@ use brought::Gf256Over16;
 use brought::Gf256Over16Kind;
 use fields::Gf16;
 use fields::Gf16Kind;
-use fields::Gf256;
-use fields::Gf256Kind;
 use fields::Gf81;
 use fields::Gf81Kind;
+use fields::Gf256;
+use fields::Gf256Kind;
 use fields::Kind;
 use fields::Mirror;
 use fields::MirrorKind;
@@ -77,7 +77,13 @@ fn unary<K: Kind>(rt: &LibcRuntime, kind: &K) -> io::Result<()> {
 }
 
 fn report<K: Kind>(rt: &LibcRuntime, kind: &K) -> io::Result<()> {
-    println!(rt, "kind {} size {} width {}", kind.number(), kind.size(), kind.width())?;
+    println!(
+        rt,
+        "kind {} size {} width {}",
+        kind.number(),
+        kind.size(),
+        kind.width()
+    )?;
     print!(rt, "basis")?;
     for j in 0..10usize {
         print!(rt, " {}", kind.basis(j))?;
