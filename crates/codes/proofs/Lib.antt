@@ -3,3 +3,4 @@ pub mod Spans
 pub mod Mixing
 pub mod Inserting
 pub mod Reducing
+pub mod Ranking

@@ -177,7 +177,7 @@ module _ {F : Type 0} {o : Ops F} (l : Laws o) where
   ind-nil (c ∷ cs) len fix e = absurd (omega arith)
 
   -- An element that independent ones do not span is independent of them.
-  ind-more : (x : F) (ys : List F) → Independent o ys → ¬ Spanned o ys x → Independent o (x ∷ ys)
+  pub ind-more : (x : F) (ys : List F) → Independent o ys → ¬ Spanned o ys x → Independent o (x ∷ ys)
   ind-more x ys ind n [] len fix e = absurd (omega arith)
   ind-more x ys ind n (c ∷ cs) len fix e =
       elim (l .same c zero) [
