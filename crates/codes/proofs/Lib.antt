@@ -4,3 +4,4 @@ pub mod Mixing
 pub mod Inserting
 pub mod Reducing
 pub mod Ranking
+pub mod Conjugating

@@ -1,7 +1,9 @@
 // Linear algebra over the fixed elements of a kind of field: rank, weight, independence, conjugacy, minimum distance.
+mod conjugacy;
 mod ranks;
 mod rows;
 
+pub use conjugacy::conjugate;
 pub use ranks::dependent_at;
 pub use ranks::rank;
 pub use rows::Form;
