@@ -5,3 +5,4 @@ pub mod Inserting
 pub mod Reducing
 pub mod Ranking
 pub mod Conjugating
+pub mod Weighing

@@ -2,6 +2,7 @@
 mod conjugacy;
 mod ranks;
 mod rows;
+mod weights;
 
 pub use conjugacy::conjugate;
 pub use ranks::dependent_at;
@@ -9,3 +10,4 @@ pub use ranks::rank;
 pub use rows::Form;
 pub use rows::Row;
 pub use rows::WIDTH;
+pub use weights::weight;
