@@ -6,3 +6,4 @@ pub mod Reducing
 pub mod Ranking
 pub mod Conjugating
 pub mod Weighing
+pub mod Separating

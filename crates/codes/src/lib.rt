@@ -1,10 +1,12 @@
 // Linear algebra over the fixed elements of a kind of field: rank, weight, independence, conjugacy, minimum distance.
 mod conjugacy;
+mod distance;
 mod ranks;
 mod rows;
 mod weights;
 
 pub use conjugacy::conjugate;
+pub use distance::minimum_distance;
 pub use ranks::dependent_at;
 pub use ranks::rank;
 pub use rows::Form;
