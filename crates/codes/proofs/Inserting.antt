@@ -22,7 +22,8 @@ use Rattle.skew.proofs.Multiplication
 use Rattle.skew.proofs.Sums
 use Rattle.skew.proofs.Sums.{cons-path}
 use Rattle.codes.specs.Ranks.{pick}
-use Rattle.codes.specs.Reduction.{count, heads, tails, mix, Row, Among-rows, zeros, unit, Pivots, Reduced, clear}
+use Rattle.codes.specs.Reduction.{count, heads, tails, mix, Row, Among-rows, zeros, unit, Pivots, Reduced}
+use Rattle.codes.specs.Steps.{clear}
 use Rattle.codes.proofs.Spans
 use Rattle.codes.proofs.Mixing
 

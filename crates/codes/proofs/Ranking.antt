@@ -298,12 +298,12 @@ module _ {m : Meaning} (l : Laws m) where
           given = subst (λ w. All (Among-rows (ops m) 8 w) (rows-of m f)) (sym (all-eight-more xs a)) (Mixing.all-among-trans laws 8 more (all-eight xs) (rows-of m f) (rows-all xs) olds (s .given));
         })
     spanning-goes-on g true i = record {
-      form = i .0;
+      form = i .form;
       gives = subst (All (Among-rows (ops m) 8 (rows-of m g))) (sym (all-eight-more xs a))
-          (all-append (Among-rows (ops m) 8 (rows-of m g)) (all-eight xs) (eight m (elem m a) ∷ []) (Mixing.all-among-trans laws 8 (rows-of m g) (rows-of m f) (all-eight xs) (s .form .reduced .rows) (i .4 .1) (s .gives)) (i .4 .0, tt));
+          (all-append (Among-rows (ops m) 8 (rows-of m g)) (all-eight xs) (eight m (elem m a) ∷ []) (Mixing.all-among-trans laws 8 (rows-of m g) (rows-of m f) (all-eight xs) (s .form .reduced .rows) (i .back .1) (s .gives)) (i .back .0, tt));
       given = subst (λ w. All (Among-rows (ops m) 8 w) (rows-of m g)) (sym (all-eight-more xs a))
           (Mixing.all-among-trans laws 8 more (eight m (elem m a) ∷ rows-of m f) (rows-of m g) (numerals .fixed (elem m a), s .form .reduced .rows)
-          (all-right (Among-rows (ops m) 8 more) (all-eight xs) (eight m (elem m a) ∷ []) own .0, Mixing.all-among-trans laws 8 more (all-eight xs) (rows-of m f) (rows-all xs) olds (s .given)) (i .3));
+          (all-right (Among-rows (ops m) 8 more) (all-eight xs) (eight m (elem m a) ∷ []) own .0, Mixing.all-among-trans laws 8 more (all-eight xs) (rows-of m f) (rows-all xs) olds (s .given)) (i .from));
     }
 
     -- A row that was spanned belongs to a symbol that was.
@@ -347,7 +347,7 @@ module _ {m : Meaning} (l : Laws m) where
 
       go : (b : Bool) → Inserted m f (eight m (elem m (getD ys i 0))) b g → (b ≡ true → Counting (take (i +ℕ 1) ys) g (n +ℕ 1)) × (b ≡ false → Counting (take (i +ℕ 1) ys) g n)
       go true v = (
-        (λ _. next (record { spanning = spanning-goes-on (getD ys i 0) (k .spanning) g true v; rows = omega (arith, k .rows, v .1); few = omega (arith, k .few, long) })),
+        (λ _. next (record { spanning = spanning-goes-on (getD ys i 0) (k .spanning) g true v; rows = omega (arith, k .rows, v .more); few = omega (arith, k .few, long) })),
         (λ u. never u),
       )
       go false v = (
@@ -378,7 +378,7 @@ module _ {m : Meaning} (l : Laws m) where
       subst (λ w. Free w g) (sym (take-more ys i 0 lt)) (record {
         spanning = spanning-goes-on (getD ys i 0) (k .spanning) g true v;
         free = subst (Independent (ops m)) (sym (map-append (elem m) (take i ys) (getD ys i 0 ∷ [])))
-            (ind-last laws (elems m (take i ys)) (elem m (getD ys i 0)) (k .free) (λ s. v .2 (spanned-back (getD ys i 0) (k .spanning) s)));
+            (ind-last laws (elems m (take i ys)) (elem m (getD ys i 0)) (k .free) (λ s. v .new (spanned-back (getD ys i 0) (k .spanning) s)));
       })
 
   -- A locator that was not.

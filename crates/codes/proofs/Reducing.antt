@@ -32,7 +32,8 @@ use Rattle.skew.proofs.Sums
 use Rattle.skew.proofs.Sums.{cons-path}
 use Rattle.skew.proofs.Growing
 use Rattle.codes.specs.Ranks.{pick}
-use Rattle.codes.specs.Reduction.{mix, clear, row, rows-of, Row, In-form, Inserted, Pivot-at, Swept, Reduced, Among-rows, no-row, less}
+use Rattle.codes.specs.Reduction.{mix, row, rows-of, Row, In-form, Inserted, Reduced, Among-rows}
+use Rattle.codes.specs.Steps.{clear, Pivot-at, Swept, no-row, less}
 use Rattle.codes.specs.declared.rows.Row.{Row as Row-codes}
 use Rattle.codes.specs.declared.rows.Form.{Form}
 use Rattle.codes.proofs.Mixing
@@ -303,16 +304,17 @@ module _ {m : Meaning} (l : Laws m) where
       → g .marks ≡ set (swept .marks) p true → g .rows ≡ set (swept .rows) p r
       → In-form m f → Row (ops m) 8 (elems m h) → Inserted m f (elems m h) true g
   inserted-one f g h left new {p} {i} swept r e at er en sw eg′ eh k fixed =
-      let I = Inserting.put-in laws 8 (elems m h) (f .marks) (rows-of m f) (k .reduced) fixed p n in (
-        record {
+      let I = Inserting.put-in laws 8 (elems m h) (f .marks) (rows-of m f) (k .reduced) fixed p n in
+      record {
+        form = record {
           room = ap length eh ∙ length-set (swept .rows) p r ∙ sw .size ∙ k .room;
           reduced = subst (λ ms. Reduced (ops m) 8 ms (rows-of m g)) (sym eg) (subst (Reduced (ops m) 8 (set (f .marks) p true)) (sym rows-are) (I .0));
-        },
-        ap length rows-are ∙ Inserting.length-put (before p (f .marks)) (ready f (elems m h) p) (map (less m p (ready f (elems m h) p)) (rows-of m f)) ∙ ap suc (length-map (rows-of m f) (less m p (ready f (elems m h) p))),
-        I .1,
-        subst (All (Among-rows (ops m) 8 (elems m h ∷ rows-of m f))) (sym rows-are) (I .2),
-        subst (λ rs. All (Among-rows (ops m) 8 rs) (elems m h ∷ rows-of m f)) (sym rows-are) (I .3),
-      )
+        };
+        more = ap length rows-are ∙ Inserting.length-put (before p (f .marks)) (ready f (elems m h) p) (map (less m p (ready f (elems m h) p)) (rows-of m f)) ∙ ap suc (length-map (rows-of m f) (less m p (ready f (elems m h) p)));
+        new = I .1;
+        from = subst (All (Among-rows (ops m) 8 (elems m h ∷ rows-of m f))) (sym rows-are) (I .2);
+        back = subst (λ rs. All (Among-rows (ops m) 8 rs) (elems m h ∷ rows-of m f)) (sym rows-are) (I .3);
+      }
     where
       eg : g .marks ≡ set (f .marks) p true
       eg = eg′ ∙ ap (λ ms. set ms p true) (sw .marks)

@@ -1,4 +1,4 @@
--- The weight of a word, block after block.
+-- The weight of a word, block after block; ranks and weights exist and are one.
 --
 --   Weighing m ns w i at sum      the first i blocks end at the place `at` and weigh `sum`
 use mathlib.Core.Path.{_≡_, refl, sym, _∙_, ap, subst}
@@ -12,9 +12,11 @@ use native.Mathlib.Omega.{arith}
 use lib.ListN.{length, length-map, length-drop, getD, take, drop}
 use lib.Seq.{drop-cons, length-take-le}
 use Rattle.std.proofs.shelf.Lists.{drop-all}
+use Rattle.fields.specs.Field.{Ops, Laws}
 use Rattle.fields.specs.Meaning.{Meaning}
 use Rattle.fields.specs.Elements.{elem, elems, ops}
-use Rattle.codes.specs.Ranks.{pick, IsRank, Weighs, total, cut}
+use Rattle.codes.specs.Ranks.{pick, IsRank, Weighs, Ranked, total, cut}
+use Rattle.codes.proofs.Spans
 
 -- No more is picked than there is.
 pick-few : {A : Type 0} (marks : List Bool) (xs : List A) → length (pick marks xs) ≤ length xs
@@ -78,3 +80,22 @@ module _ (m : Meaning) where
   weighing-ends ns w {i} {at} {sum} le v =
       subst (Weighs (ops m) (map (elems m) (cut ns w))) (let e : sum + 0 ≡ sum = omega arith in e)
       (v .rest 0 (subst (λ ls. Weighs (ops m) (map (elems m) (cut ls (drop at w))) 0) (sym (drop-all i ns le)) refl))
+
+module _ {F : Type 0} {o : Ops F} (l : Laws o) where
+  -- Each word has a weight.
+  weight-exists : (word : List (List F)) → (t : ℕ) × Weighs o word t
+  weight-exists [] = (0, refl)
+  weight-exists (xs ∷ word) =
+      let r = Spans.rank-exists l xs in
+      let u = weight-exists word in
+      (r .0 + u .0, (r .0, r .1, u .0, u .1, refl))
+
+  -- And only one.
+  weight-unique : (word : List (List F)) (t u : ℕ) → Weighs o word t → Weighs o word u → t ≡ u
+  weight-unique [] t u v w = v ∙ sym w
+  weight-unique (xs ∷ word) t u v w =
+      omega (arith, v .4, w .4, Spans.rank-unique l xs (v .0) (w .0) (v .1) (w .1), weight-unique word (v .2) (w .2) (v .3) (w .3))
+
+  -- So have lists and words.
+  pub ranked : Ranked o
+  ranked = record { rank = Spans.rank-exists l; one-rank = Spans.rank-unique l; weight = weight-exists; one-weight = weight-unique }

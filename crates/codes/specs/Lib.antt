@@ -1,3 +1,4 @@
 pub mod Ranks
 pub mod Reduction
+pub mod Steps
 pub mod Distance

@@ -4,8 +4,8 @@
 --   pick marks xs      the elements of xs that are marked
 --   IsRank o xs r      r is the largest number of independent ones among xs
 --   Weighs o word t    t is the sum of the ranks of the blocks of the word
---   total ns           the sum of these numbers
---   cut ns w           w cut into blocks of these lengths
+--   Ranked o           ranks and weights exist and are one
+--   total ns, cut ns w     the sum of these numbers; w cut into blocks of these lengths
 --   Tells r P          the answer r is true where P holds, and false where it does not
 --   Depends m ls i     place i is the first whose element depends on the earlier ones
 use mathlib.Core.Path.{_≡_}
@@ -37,6 +37,13 @@ module _ {F : Type 0} (o : Ops F) where
   abbrev pub Weighs : List (List F) → ℕ → Type 0
   Weighs [] t = t ≡ 0
   Weighs (xs ∷ word) t = (r : ℕ) × IsRank xs r × (u : ℕ) × Weighs word u × (t ≡ r + u)
+
+-- Each list has a rank, and only one, and each word a weight, and only one.
+pub record Ranked {F : Type 0} (o : Ops F) : Type 0 where
+  pub rank : (xs : List F) → (r : ℕ) × IsRank o xs r
+  pub one-rank : (xs : List F) (r s : ℕ) → IsRank o xs r → IsRank o xs s → r ≡ s
+  pub weight : (word : List (List F)) → (t : ℕ) × Weighs o word t
+  pub one-weight : (word : List (List F)) (t u : ℕ) → Weighs o word t → Weighs o word u → t ≡ u
 
 abbrev pub total : List ℕ → ℕ
 total [] = 0

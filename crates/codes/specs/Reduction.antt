@@ -1,25 +1,23 @@
 -- Rows of fixed coefficients in reduced form.
 --
---   heads, tails       the entries of rows at the first place, and the rows from the next place on
---   mix o n hs xs      the sum of the rows hs, each times its element of xs, at the first n places
---   Row o n h          h has n entries, all fixed
+--   count marks            how many are marked
+--   heads, tails           the entries of rows at the first place, and the rows from the next place on
+--   mix o n hs xs          the sum of the rows hs, each times its element of xs, at the first n places
+--   Row o n h              h has n entries, all fixed
 --   Among-rows o n hs h    h is a sum of the rows hs times fixed coefficients
---   count marks        how many are marked
---   Pivots o j marks hs    at the marked places, one after the other, row j, then row j + 1, and so on, has one, and each other zero
+--   Pivots o j marks hs    at the marked places, one after the other, row j, row j + 1 and so on has one, and each other row zero
 --   Reduced o n marks hs   as many rows as marks among n places, fixed, with their pivots at the marked places
---   clear o marks hs v     v less the rows, each times what v has at the row's pivot
---   rows-of m f, In-form m f     the rows of a form, in elements; they are reduced
---   Inserted m f h r g    what the insertion of a row answers and leaves
+--   row, rows-of, In-form  a row and the rows of a form of the program, in elements; they are reduced
+--   Inserted m f h r g     what the insertion of a row answers and leaves
 use mathlib.Core.Path.{_≡_}
 use mathlib.Core.Bool.{Bool, true, false}
 use mathlib.Core.List.{List, [], _∷_, map}
-use mathlib.Core.Logic.{_≢_}
-use Prim.Native.Nat.{ℕ, suc, _<_}
-use lib.ListN.{length, drop, getD}
+use Prim.Native.Nat.{ℕ, suc}
+use lib.ListN.{length, drop}
 use Rattle.fields.specs.Lists.{All}
-use Rattle.fields.specs.Field.{Ops, Zero, Fixed, plus, scale, comb}
+use Rattle.fields.specs.Field.{Ops, Fixed, comb}
 use Rattle.fields.specs.Meaning.{Meaning}
-use Rattle.fields.specs.Elements.{Elem, elem, elems, ops}
+use Rattle.fields.specs.Elements.{Elem, elems, ops}
 use Rattle.skew.specs.Products.{coef}
 use Rattle.codes.specs.Ranks.{pick}
 use Rattle.codes.specs.declared.rows.Row.{Row as Row-codes}
@@ -59,9 +57,6 @@ module _ {F : Type 0} (o : Ops F) where
   unit (suc n) ℕ.zero = one ∷ zeros n
   unit (suc n) (suc j) = zero ∷ unit n j
 
-  abbrev pub clear : List Bool → List (List F) → List F → List F
-  clear marks hs v = plus o v (map (o .neg) (mix (length v) hs (pick marks v)))
-
   abbrev pub Pivots : ℕ → List Bool → List (List F) → Type 0
   Pivots j [] hs = Unit {0}
   Pivots j (true ∷ marks) hs = (heads hs ≡ unit (length hs) j) × Pivots (suc j) marks (tails hs)
@@ -76,37 +71,23 @@ pub record Reduced {F : Type 0} (o : Ops F) (n : ℕ) (marks : List Bool) (hs : 
 abbrev pub row : (m : Meaning) → Row-codes → List (Elem m)
 row m r = elems m (r .cells)
 
--- What stands at no place of a list of rows.
-abbrev pub no-row : Row-codes
-no-row = record { cells = [] }
-
--- Those at marked places.
+-- The rows at marked places.
 abbrev pub rows-of : (m : Meaning) → Form → List (List (Elem m))
 rows-of m f = pick (f .marks) (map (row m) (f .rows))
-
--- The place p of a row is not zero, and i is the inverse of what stands there.
-pub record Pivot-at (m : Meaning) (h : List (Elem m)) (p i : ℕ) : Type 0 where
-  pub low : p < 8
-  pub nonzero : coef (ops m) h p ≢ ops m .zero
-  pub inverse : elem m i ≡ ops m .inv (coef (ops m) h p)
-
--- A row less its entry at the place p times h.
-abbrev pub less : (m : Meaning) → ℕ → List (Elem m) → List (Elem m) → List (Elem m)
-less m p h r = plus (ops m) r (scale (ops m) (ops m .neg (coef (ops m) r p)) h)
-
--- g is f with each row made zero at the place p by the row h, also those at places that are not marked.
-pub record Swept (m : Meaning) (f : Form) (p : ℕ) (h : List (Elem m)) (g : Form) : Type 0 where
-  pub marks : g .marks ≡ f .marks
-  pub size : length (g .rows) ≡ length (f .rows)
-  pub rows : (k : ℕ) → k < 8 → row m (getD (g .rows) k no-row) ≡ less m p h (row m (getD (f .rows) k no-row))
 
 pub record In-form (m : Meaning) (f : Form) : Type 0 where
   pub room : length (f .rows) ≡ 8
   pub reduced : Reduced (ops m) 8 (f .marks) (rows-of m f)
 
--- Where h is spanned already nothing is changed; else the new rows are again reduced, and span what the old ones span with h.
+-- The form g has one row more than f, h was not among the sums of the rows of f, and the rows of g have the sums of h and those.
+pub record Extended (m : Meaning) (f : Form) (h : List (Elem m)) (g : Form) : Type 0 where
+  pub form : In-form m g
+  pub more : length (rows-of m g) ≡ suc (length (rows-of m f))
+  pub new : ¬ Among-rows (ops m) 8 (rows-of m f) h
+  pub from : All (Among-rows (ops m) 8 (h ∷ rows-of m f)) (rows-of m g)
+  pub back : All (Among-rows (ops m) 8 (rows-of m g)) (h ∷ rows-of m f)
+
+-- Where h is among the sums already nothing is changed.
 abbrev pub Inserted : (m : Meaning) → Form → List (Elem m) → Bool → Form → Type 0
 Inserted m f h false g = (g ≡ f) × Among-rows (ops m) 8 (rows-of m f) h
-Inserted m f h true g =
-    In-form m g × (length (rows-of m g) ≡ suc (length (rows-of m f))) × (¬ Among-rows (ops m) 8 (rows-of m f) h)
-    × All (Among-rows (ops m) 8 (h ∷ rows-of m f)) (rows-of m g) × All (Among-rows (ops m) 8 (rows-of m g)) (h ∷ rows-of m f)
+Inserted m f h true g = Extended m f h g

@@ -9,6 +9,7 @@ pub use conjugacy::conjugate;
 pub use distance::minimum_distance;
 pub use ranks::dependent_at;
 pub use ranks::rank;
+pub use ranks::ranks_stand;
 pub use rows::Form;
 pub use rows::Row;
 pub use rows::WIDTH;

@@ -6,8 +6,9 @@ ghost use Rattle.std.specs.Options.{Cases};
 ghost use Rattle.fields.specs.Lists.{All};
 ghost use Rattle.fields.specs.Field.{Zero, plus, scale};
 ghost use Rattle.fields.specs.Meaning.{Meaning};
-ghost use Rattle.fields.specs.Elements.{elem, elems, ops};
-ghost use Rattle.codes.specs.Reduction.{row as row-of, rows-of, clear, In-form, Inserted, Pivot-at, Swept, Row as Fixed-row};
+ghost use Rattle.fields.specs.Elements.{elem, ops};
+ghost use Rattle.codes.specs.Reduction.{row as row-of, rows-of, In-form, Inserted, Row as Fixed-row};
+ghost use Rattle.codes.specs.Steps.{clear, Pivot-at, Swept};
 use fields::Kind;
 
 // How many places a row has.
@@ -22,8 +23,8 @@ pub struct Row {
 // The row with its pivot at place p stands at place p, and p is marked; what stands at other places is not in use.
 #[derive(Clone, Copy)]
 pub struct Form {
-    pub rows: [Row; 8],
-    pub marks: [bool; 8],
+    rows: [Row; 8],
+    marks: [bool; 8],
 }
 
 // Where a row is not 0, and the inverse of what stands there.
