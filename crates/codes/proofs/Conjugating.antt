@@ -3,13 +3,12 @@
 --   Untried m a b i      no element with a code from 1 to below i makes them so
 use mathlib.Core.Path.{_≡_, refl, sym, _∙_, ap, subst}
 use mathlib.Core.Logic.{_≢_, inl, inr}
-use mathlib.Core.Bool.{Bool}
 use Prim.Native.Nat.{ℕ, _+_, _<_, _≤_}
 use native.Mathlib.Omega.{arith}
 use Rattle.std.proofs.shelf.Tests.{cases-lt}
 use Rattle.fields.specs.Field as field
 use Rattle.fields.specs.Meaning.{Meaning, Laws, clip}
-use Rattle.fields.specs.Elements.{Elem, element, elem, ops}
+use Rattle.fields.specs.Elements.{Elem, elem, ops}
 use Rattle.fields.proofs.Basics
 use Rattle.fields.proofs.Carrier
 use Rattle.skew.specs.Roots.{Conjugate}
@@ -24,6 +23,7 @@ module _ (m : Meaning) where
     pub none : (k : ℕ) → 1 ≤ k → k < i → ¬ Makes a b k
 
 module _ {m : Meaning} (l : Laws m) where
+  -- The laws of the elements.
   laws : field.Laws (ops m)
   laws = Carrier.ops-laws l
 
@@ -33,9 +33,11 @@ module _ {m : Meaning} (l : Laws m) where
 
   -- What the two products say of the code c.
   module _ (a b c : ℕ) {t p q : ℕ} (et : t ≡ m .twist (clip m c)) (ep : p ≡ m .product (clip m t) (clip m a)) (eq : q ≡ m .product (clip m b) (clip m c)) where
+    -- The product with a.
     first : elem m p ≡ ops m .mul (ops m .twist (elem m c)) (elem m a)
     first = Carrier.multiplies m t a ep ∙ ap (λ x. ops m .mul x (elem m a)) (Carrier.twists m c et)
 
+    -- The product with b.
     second : elem m q ≡ ops m .mul (elem m b) (elem m c)
     second = Carrier.multiplies m b c eq
 

@@ -5,13 +5,13 @@
 use mathlib.Core.Path.{_≡_, refl, sym, _∙_, ap}
 use mathlib.Core.Logic.{_≢_}
 use mathlib.Core.List.{List, [], _∷_, map}
-use Prim.Native.Nat.{ℕ, suc}
+use Prim.Native.Nat.{suc}
 use native.Mathlib.Omega.{arith}
 use lib.ListN.{length}
 use Rattle.fields.specs.Lists.{All}
 use Rattle.fields.specs.Field.{Ops, Laws, comb}
 use Rattle.fields.proofs.Basics
-use Rattle.fields.proofs.Basics.{ring, twists}
+use Rattle.fields.proofs.Basics.{ring}
 use Rattle.skew.specs.Values.{step, eval}
 use Rattle.skew.specs.Products.{coef}
 use Rattle.skew.proofs.Evaluation

@@ -205,6 +205,7 @@ module _ {F : Type 0} {o : Ops F} (l : Laws o) where
     among-scale hs c u p s =
         (map (o .mul c) (s .0), length-map (s .0) (o .mul c) ∙ s .1, Rows.fixed-scaled l c (s .0) p (s .2), ap (scale o c) (s .3) ∙ sym (mix-by c n hs (s .0)))
 
+    -- A row with nothing of another.
     plus-none : (h v : List F) → length h ≡ length v → plus o (scale o zero h) v ≡ v
     plus-none [] v e = refl
     plus-none (x ∷ h) [] e = absurd (omega arith)
@@ -213,6 +214,7 @@ module _ {F : Type 0} {o : Ops F} (l : Laws o) where
         nought : (w : F) → zero * x + w ≡ w
         nought w = simp (ring, l)
 
+    -- One times a row, and zeros.
     plus-only : (h v : List F) → length h ≡ length v → All (Zero o) v → plus o (scale o one h) v ≡ h
     plus-only [] [] e z = refl
     plus-only [] (y ∷ v) e z = absurd (omega arith)

@@ -17,10 +17,9 @@ use Rattle.fields.specs.Lists.{All}
 use Rattle.fields.specs.Field.{Ops, Zero, Fixed, plus, scale, comb}
 use Rattle.fields.specs.Field as field
 use Rattle.fields.specs.Meaning.{Meaning, Laws, clip, digit-row}
-use Rattle.fields.specs.Elements.{Elem, element, elem, elems, ops, basis-of, digits-of, Digits-linear}
+use Rattle.fields.specs.Elements.{Elem, element, elem, elems, ops, basis-of, digits-of}
 use Rattle.fields.proofs.Basics
 use Rattle.fields.proofs.Basics.{ring}
-use Rattle.fields.proofs.Rows
 use Rattle.fields.proofs.Carrier
 use Rattle.fields.proofs.Digits
 use Rattle.skew.specs.Roots.{Independent}
@@ -199,6 +198,7 @@ abbrev pub eight : (m : Meaning) → Elem m → List (Elem m)
 eight m x = elems m (digit-row m (x .code))
 
 module _ {m : Meaning} (l : Laws m) where
+  -- The laws of the elements.
   laws : field.Laws (ops m)
   laws = Carrier.ops-laws l
 
@@ -269,6 +269,7 @@ module _ {m : Meaning} (l : Laws m) where
   rows-all [] = tt
   rows-all (x ∷ xs) = (numerals .fixed (elem m x), rows-all xs)
 
+  -- The digits of one symbol more.
   all-eight-more : (xs : List ℕ) (a : ℕ) → all-eight (xs ++ a ∷ []) ≡ all-eight xs ++ eight m (elem m a) ∷ []
   all-eight-more [] a = refl
   all-eight-more (x ∷ xs) a = cons-path refl (all-eight-more xs a)
@@ -282,9 +283,11 @@ module _ {m : Meaning} (l : Laws m) where
     abbrev more : List (List (Elem m))
     more = all-eight xs ++ eight m (elem m a) ∷ []
 
+    -- Each of them is among their sums.
     own : All (Among-rows (ops m) 8 more) more
     own = Mixing.among-own laws 8 more (all-append (Row (ops m) 8) (all-eight xs) (eight m (elem m a) ∷ []) (rows-all xs) (numerals .fixed (elem m a), tt))
 
+    -- So are those of the earlier symbols.
     olds : All (Among-rows (ops m) 8 more) (all-eight xs)
     olds = all-left (Among-rows (ops m) 8 more) (all-eight xs) (eight m (elem m a) ∷ []) own
 
@@ -320,6 +323,7 @@ module _ {m : Meaning} (l : Laws m) where
     pub rows : n ≡ length (rows-of m f)
     pub few : n ≤ length xs
 
+  -- No symbols.
   pub counting-starts : {f : Form} → In-form m f × (rows-of m f ≡ []) → Counting [] f 0
   counting-starts k = record { spanning = spanning-starts k; rows = sym (ap length (k .1)); few = omega arith }
 
@@ -367,6 +371,7 @@ module _ {m : Meaning} (l : Laws m) where
     pub spanning : Spanning xs f
     pub free : Independent (ops m) (elems m xs)
 
+  -- No locators.
   pub free-starts : {f : Form} → In-form m f × (rows-of m f ≡ []) → Free [] f
   free-starts k = record { spanning = spanning-starts k; free = Spans.ind-nil laws }
 

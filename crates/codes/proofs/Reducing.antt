@@ -23,7 +23,6 @@ use Rattle.fields.specs.Field as field
 use Rattle.fields.specs.Meaning.{Meaning, Laws, clip, inverted}
 use Rattle.fields.specs.Elements.{Elem, elem, elems, ops}
 use Rattle.fields.proofs.Basics
-use Rattle.fields.proofs.Basics.{ring}
 use Rattle.fields.proofs.Rows
 use Rattle.fields.proofs.Carrier
 use Rattle.skew.specs.Products.{coef}
@@ -105,12 +104,6 @@ module _ {F : Type 0} {o : Ops F} (l : field.Laws o) where
       → Clearing o marks slots h left p → Clearing o marks slots h left′ (p + 1)
   clearing-goes-on {marks} {slots} {h} {left} {left′} {p} lt em es eh u er e k = record { size = long; is = ap (λ w. plus o left′ (map neg w)) (ap (rest o marks slots h) (add-one p)) ∙ moved ∙ k .is }
     where
-      x : F
-      x = coef o h p
-
-      r : List F
-      r = getD slots p []
-
       long : length left′ ≡ 8
       long = ap length e ∙ Rows.length-plus l left (scale o (neg (coef o h p)) (getD slots p [])) ∙ omega (arith, k .size, er, length-map (getD slots p []) (o .mul (neg (coef o h p))))
 
@@ -149,6 +142,7 @@ module _ {F : Type 0} {o : Ops F} (l : field.Laws o) where
       less-none (x ∷ u) (y ∷ v) e z = cons-path (ap (λ w. o .add x (neg w)) (z .0) ∙ ap (o .add x) (Basics.neg-zero l) ∙ Basics.add-zero l x) (less-none u v (omega arith) (z .1))
 
 module _ {m : Meaning} (l : Laws m) where
+  -- The laws of the elements.
   laws : field.Laws (ops m)
   laws = Carrier.ops-laws l
 

@@ -15,7 +15,6 @@ use Rattle.fields.specs.Field.{Ops, Laws, Zero, Fixed, plus, comb}
 use Rattle.fields.proofs.Basics
 use Rattle.fields.proofs.Basics.{ring, twists}
 use Rattle.fields.proofs.Rows
-use Rattle.skew.specs.Values.{eval}
 use Rattle.skew.specs.Roots.{block, Independent, Lawful}
 use Rattle.skew.specs.Products.{coef}
 use Rattle.skew.proofs.Evaluation

@@ -76,6 +76,7 @@ module _ (m : Meaning) where
   pub weighing-all : (ns : List ℕ) {w : List ℕ} {i at sum : ℕ} → length ns ≤ i → Weighing m ns w i at sum → total ns ≡ at
   weighing-all ns {w} {i} {at} le v = sym (v .ends) ∙ ap (λ ls. at + total ls) (drop-all i ns le) ∙ omega arith
 
+  -- The whole word was weighed.
   pub weighing-ends : (ns w : List ℕ) {i at sum : ℕ} → length ns ≤ i → Weighing m ns w i at sum → Weighs (ops m) (map (elems m) (cut ns w)) sum
   weighing-ends ns w {i} {at} {sum} le v =
       subst (Weighs (ops m) (map (elems m) (cut ns w))) (let e : sum + 0 ≡ sum = omega arith in e)

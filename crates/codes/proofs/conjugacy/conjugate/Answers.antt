@@ -1,4 +1,3 @@
-use mathlib.Core.Path.{sym}
 use native.Mathlib.Omega.{arith}
 use Rattle.codes.proofs.Conjugating.{untried-starts, untried-goes-on, untried-finds, untried-ends}
 use Rattle.codes.proofs.conjugacy.conjugate.Needs as need

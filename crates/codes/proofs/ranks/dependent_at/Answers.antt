@@ -1,4 +1,3 @@
-use borrow.Author.Needs.{needs}
 use Rattle.codes.proofs.Ranking.{free-starts, free-goes-on, free-stops, free-ends}
 use Rattle.codes.proofs.ranks.dependent_at.Needs as need
 

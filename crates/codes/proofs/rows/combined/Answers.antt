@@ -1,5 +1,4 @@
 use borrow.Author.Needs.{needs}
-use native.Mathlib.Omega.{arith}
 use Rattle.codes.proofs.Reducing.{combining-starts, combining-goes-on, combining-ends}
 use Rattle.codes.proofs.rows.combined.Needs as need
 

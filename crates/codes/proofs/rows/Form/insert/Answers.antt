@@ -1,4 +1,3 @@
-use borrow.Author.Needs.{needs}
 use mathlib.Core.Path.{refl}
 use Rattle.codes.proofs.Reducing.{inserted-none, inserted-one}
 use Rattle.codes.proofs.rows.Form.insert.Needs as need
