@@ -2,15 +2,14 @@
 --
 --   Summing m xs ys i t             t plus the sum over the places from i on is the whole sum
 --   Checking m ps ds w j ts out     ts are the terms of syndrome j, counted from 0, and out holds the syndromes before it
-use mathlib.Core.Path.{_≡_, refl, sym, ap, _∙_, subst}
-use mathlib.Core.Logic.{_↔_}
+use mathlib.Core.Path.{_≡_, refl, sym, ap, _∙_}
 use mathlib.Core.List.{List, [], _∷_, _++_}
 use Prim.Native.Nat.{ℕ, suc, _+_, _-_, _<_, _≤_}
 use native.Mathlib.Omega.{arith}
 use native.Mathlib.Numerals.{add-one}
 use borrow.Author.Count.{below-more}
 use lib.ListN.{length, getD, take, drop, length-map}
-use Rattle.std.proofs.shelf.Lists.{drop-more, drop-all, drop-map, take-all, length-push, getD-push, getD-append-left}
+use Rattle.std.proofs.shelf.Lists.{drop-more, drop-all, take-all, length-push, getD-push, getD-append-left}
 use Rattle.fields.specs.Field.{mirror, scale, comb}
 use Rattle.fields.specs.Field as field
 use Rattle.fields.specs.Meaning.{Meaning, Laws, clip}
@@ -19,18 +18,18 @@ use Rattle.fields.proofs.Basics
 use Rattle.fields.proofs.Carrier
 use Rattle.skew.specs.declared.points.Point.{Point}
 use Rattle.skew.specs.Values.{twisted, norm}
-use Rattle.skew.specs.Roots.{Block, points, Lawful}
+use Rattle.skew.specs.Roots.{points}
 use Rattle.skew.specs.Products.{coef}
 use Rattle.skew.specs.Annihilators.{places}
 use Rattle.skew.proofs.Values.{term-step}
 use Rattle.skew.proofs.Sums.{cons-path}
 use Rattle.skew.proofs.Growing.{code-of-zero}
-use Rattle.codes.specs.Duals.{Codeword, powers, dual-points, syndrome, Dual-locators}
+use Rattle.codes.specs.Duals.{powers, dual-points, syndrome}
 use Rattle.codes.specs.DualAnswers.{Checked, advanced}
 use Rattle.codes.proofs.Combs
 use Rattle.codes.proofs.Mirrors
 use Rattle.codes.proofs.Holding.{Filling, fill, uncut}
-use Rattle.codes.proofs.DualWeights.{length-places, length-scaled, sharp-places}
+use Rattle.codes.proofs.Multipliers.{length-places, length-scaled, sharp-places}
 
 pub record Summing (m : Meaning) (xs ys : List ℕ) (i t : ℕ) : Type 0 where
   pub counts : clip m t ≡ t

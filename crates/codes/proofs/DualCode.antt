@@ -50,9 +50,9 @@ module _ (m : Meaning) (ps : List Point) (ds : List ℕ) (same : length ds ≡ l
       let n : length whole ≡ length ps = dual-length (ops m) (places m ps) (elems m ds) same-elems ∙ length-map ps (place m) in
       let o-length : length out ≡ i = sym (length-map out (place m)) ∙ ap length e ∙ length-take i whole ∙ omega arith in
       let new : place m (record { parameter = a; locator = b }) ≡ getD whole i (place m d) =
-          ap₂ (λ x y. (x, y)) (Carrier.untwists m (getD ps i d .parameter) ea ∙ ap (λ t. ops m .untwist (t .0)) (sym (getD-map (place m) ps i d (place m d) h)))
-            (ap (elem m) eb ∙ Carrier.elem-at m ds i)
-          ∙ sym (dual-at (ops m) (places m ps) (elems m ds) (place m d) (ops m .zero) i same-elems (omega (arith, length-map ps (place m)))) in
+      ap₂ (λ x y. (x, y)) (Carrier.untwists m (getD ps i d .parameter) ea ∙ ap (λ t. ops m .untwist (t .0)) (sym (getD-map (place m) ps i d (place m d) h)))
+      (ap (elem m) eb ∙ Carrier.elem-at m ds i)
+      ∙ sym (dual-at (ops m) (places m ps) (elems m ds) (place m d) (ops m .zero) i same-elems (omega (arith, length-map ps (place m)))) in
       ap (places m) (eo ∙ take-all 24 (out ++ record { parameter = a; locator = b } ∷ []) (omega (arith, length-push′ out a b)))
       ∙ map-append (place m) out (record { parameter = a; locator = b } ∷ []) ∙ ap₂ (λ u v. u ++ v ∷ []) e new ∙ sym (take-more whole i (place m d) (omega arith))
     where
@@ -96,9 +96,9 @@ module _ {m : Meaning} (l : Laws m) (c d : Code) (ds : List ℕ) where
         let count : length (pts m c) ≡ length (stops (c .course)) = length-map (stops (c .course)) (place m) in
         let all : roots.places (law .blocks) ≡ length (stops (c .course)) = sym (points-length (law .blocks)) ∙ ap length (law .grouped) ∙ count in
         subst (λ ts. Codeword (mirror (ops m)) ts (d .dimension) w ↔ ((v : List (Elem m)) → Codeword (ops m) (pts m c) (c .dimension) v → comb (ops m) v w ≡ ops m .zero))
-          (L .0 ∙ ap (λ ts. dual-points (ops m) ts (elems m ds)) (law .grouped) ∙ sym ep)
-          (subst (λ ts. Codeword (mirror (ops m)) (points (dual-blocks (ops m) (law .blocks) (elems m ds))) (d .dimension) w ↔ ((v : List (Elem m)) → Codeword (ops m) ts (c .dimension) v → comb (ops m) v w ≡ ops m .zero))
-            (law .grouped) (loc .duality .orthogonal (law .blocks) (elems m ds) (c .dimension) (d .dimension) w (law .lawful) (there law) (omega arith) (n ∙ sym all)));
+        (L .0 ∙ ap (λ ts. dual-points (ops m) ts (elems m ds)) (law .grouped) ∙ sym ep)
+        (subst (λ ts. Codeword (mirror (ops m)) (points (dual-blocks (ops m) (law .blocks) (elems m ds))) (d .dimension) w ↔ ((v : List (Elem m)) → Codeword (ops m) ts (c .dimension) v → comb (ops m) v w ≡ ops m .zero))
+        (law .grouped) (loc .duality .orthogonal (law .blocks) (elems m ds) (c .dimension) (d .dimension) w (law .lawful) (there law) (omega arith) (n ∙ sym all)));
   }
     where
       right : (law : Lawful-code m c) → Dual-locators (ops m) (pts m c) (elems m ds)

@@ -69,27 +69,27 @@ module _ (m : Meaning) (s : Sheet) (laid : Laid s) where
       → e ≡ at-code NoCode (o + i) → Unfit m (text-of s) e
   unfit-locator {ps} {xs} {i} {o} ep a ex f eo ee =
       subst (Unfit m (text-of s)) (sym (ee ∙ ap (λ n. at-code NoCode (n + i)) (eo ∙ locators-offset s laid)))
-        (no-locator i (subst (All-not (Outside m 1)) ep a) (subst (λ ys. First (Outside m 0) ys i) ex f))
+      (no-locator i (subst (All-not (Outside m 1)) ep a) (subst (λ ys. First (Outside m 0) ys i) ex f))
 
   pub unfit-related : {ps xs : List ℕ} {j o : ℕ} {e : Fault} → ps ≡ part-of (s .parameters) → All-not (Outside m 1) ps → xs ≡ part-of (s .locators) → All-not (Outside m 0) xs
       → (j < length ps) × Apart-until m ps j × Related m ps j → o ≡ offset-of (s .parameters) → e ≡ at-code reason.Conjugate (o + j) → Unfit m (text-of s) e
   unfit-related {ps} {xs} {j} {o} ep a ex b r eo ee =
       let r′ = subst (λ qs. (j < length qs) × Apart-until m qs j × Related m qs j) ep r in
       subst (Unfit m (text-of s)) (sym (ee ∙ ap (λ n. at-code reason.Conjugate (n + j)) (eo ∙ parameters-offset s laid)))
-        (related j (subst (All-not (Outside m 1)) ep a) (subst (All-not (Outside m 0)) ex b) (r′ .0) (r′ .1) (r′ .2))
+      (related j (subst (All-not (Outside m 1)) ep a) (subst (All-not (Outside m 0)) ex b) (r′ .0) (r′ .1) (r′ .2))
 
   pub unfit-dependent : {ls ps xs : List ℕ} {o : ℕ} {e : Fault} → ls ≡ part-of (s .lengths) → ps ≡ part-of (s .parameters) → All-not (Outside m 1) ps → xs ≡ part-of (s .locators) → All-not (Outside m 0) xs
       → Apart-until m ps (length ps) → Breaks m ls xs o e → o ≡ offset-of (s .locators) → Unfit m (text-of s) e
   unfit-dependent {ls} {ps} {xs} {o} {e} el ep a ex b ap′ br eo =
       dependent
-        (record { parameters = subst (All-not (Outside m 1)) ep a; locators = subst (All-not (Outside m 0)) ex b; apart = subst (λ qs. Apart-until m qs (length qs)) ep ap′ })
-        (subst (λ n. Breaks m (part-of (s .lengths)) (part-of (s .locators)) n e) (eo ∙ locators-offset s laid) (subst (λ zs. Breaks m zs (part-of (s .locators)) o e) el (subst (λ ys. Breaks m ls ys o e) ex br)))
+      (record { parameters = subst (All-not (Outside m 1)) ep a; locators = subst (All-not (Outside m 0)) ex b; apart = subst (λ qs. Apart-until m qs (length qs)) ep ap′ })
+      (subst (λ n. Breaks m (part-of (s .lengths)) (part-of (s .locators)) n e) (eo ∙ locators-offset s laid) (subst (λ zs. Breaks m zs (part-of (s .locators)) o e) el (subst (λ ys. Breaks m ls ys o e) ex br)))
 
 module _ {m : Meaning} (l : Laws m) where
   -- A parameter that is a code other than 0 is not zero.
   nonzero : (a : ℕ) → ¬ Outside m 1 a → elem m a ≢ ops m .zero
   nonzero a n e =
-      let k : a < m .size = elim (cases-lt a (m .size)) [ | inl h ↦ h | inr h ↦ absurd (n (inr h)) ] in
+      let k : a < m .size = elim (cases-lt a (m .size)) [ inl h ↦ h | inr h ↦ absurd (n (inr h)) ] in
       let z : a ≡ 0 = Carrier.same-elem l a 0 k (Carrier.zero-code l) (e ∙ sym (Carrier.zero-is m)) in
       n (inl (omega arith))
 
@@ -105,9 +105,12 @@ module _ {m : Meaning} (l : Laws m) where
       → ((d : List ℕ) (i : ℕ) → i < length bs → Independent (ops m) (elems m (getD bs i d))) → Lawful (ops m) (grouped m ps bs)
   lawful-grouped [] bs a h f = tt
   lawful-grouped (p ∷ ps) [] a h f = tt
-  lawful-grouped (p ∷ ps) (b ∷ bs) a h f =
-      (nonzero p (a 0 (omega arith)), f [] 0 (omega arith), all-apart (elem m p) ps bs (λ j k. h 0 (suc j) (omega arith) (omega arith)),
-       lawful-grouped ps bs (λ j k. a (suc j) (omega arith)) (λ i j k k′. h (suc i) (suc j) (omega arith) (omega arith)) (λ d i k. f d (suc i) (omega arith)))
+  lawful-grouped (p ∷ ps) (b ∷ bs) a h f = (
+    nonzero p (a 0 (omega arith)),
+    f [] 0 (omega arith),
+    all-apart (elem m p) ps bs (λ j k. h 0 (suc j) (omega arith) (omega arith)),
+    lawful-grouped ps bs (λ j k. a (suc j) (omega arith)) (λ i j k k′. h (suc i) (suc j) (omega arith) (omega arith)) (λ d i k. f d (suc i) (omega arith)),
+  )
 
 -- The points of a route are those of its blocks.
 places-one : (m : Meaning) (a : ℕ) (xs : List ℕ) → map (place m) (map (pointed a) xs) ≡ map (λ b. (elem m a, b)) (elems m xs)

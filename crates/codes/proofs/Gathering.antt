@@ -71,12 +71,12 @@ module _ (m : Meaning) (ls ps xs : List ℕ) where
       let new = map (pointed (getD ps i 0)) (take (getD ls i 0) (drop at xs)) in
       let next = route (drop (i + 1) ls) (drop (i + 1) ps) (drop (at + getD ls i 0) xs) in
       let step : route (drop i ls) (drop i ps) (drop at xs) ≡ new ++ next =
-          ap₂ (λ u v. route u v (drop at xs)) (drop-more ls i 0 h) (drop-more ps i 0 (omega arith))
-          ∙ ap (λ z. new ++ route (drop (i + 1) ls) (drop (i + 1) ps) z) (drop-drop (getD ls i 0) at xs) in
+      ap₂ (λ u v. route u v (drop at xs)) (drop-more ls i 0 h) (drop-more ps i 0 (omega arith))
+      ∙ ap (λ z. new ++ route (drop (i + 1) ls) (drop (i + 1) ps) z) (drop-drop (getD ls i 0) at xs) in
       let whole : (points ++ new) ++ next ≡ route ls ps xs = append-assoc points new next ∙ ap (λ z. points ++ z) (sym step) ∙ w .all in
       let e : points′ ≡ points ++ new =
-          eo ∙ ap (λ q. take 24 (points ++ map (pointed (getD ps i 0)) q)) ep
-          ∙ take-all 24 (points ++ new) (omega (arith, length-append (points ++ new) next, ap length whole, route-length ls ps xs)) in
+      eo ∙ ap (λ q. take 24 (points ++ map (pointed (getD ps i 0)) q)) ep
+      ∙ take-all 24 (points ++ new) (omega (arith, length-append (points ++ new) next, ap length whole, route-length ls ps xs)) in
       record {
         at-is = ap (λ n. n + getD ls i 0) (w .at-is) ∙ total-more i ls h;
         all = ap (λ z. z ++ next) e ∙ whole;

@@ -1,9 +1,9 @@
 -- Lists of symbols of fixed capacity: what `push` does to the cells, and a list that is filled from the front.
 --
 --   Filling X i s    s holds the codes of the first i elements of X, as far as there is room
-use mathlib.Core.Path.{_≡_, refl, sym, ap, _∙_}
+use mathlib.Core.Path.{_≡_, sym, ap, _∙_}
 use mathlib.Core.List.{List, [], _∷_, _++_}
-use Prim.Native.Nat.{ℕ, suc, _+_, _<_, _≤_}
+use Prim.Native.Nat.{ℕ, _+_, _<_, _≤_}
 use native.Mathlib.Omega.{arith}
 use lib.ListN.{length, getD, set, take, length-map}
 use Rattle.std.proofs.shelf.Lists.{take-more, take-more-set, take-all, take-at, length-take, length-push, getD-map}

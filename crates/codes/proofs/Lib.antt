@@ -23,5 +23,5 @@ pub mod Mirrors
 pub mod DualCodes
 pub mod Holding
 pub mod Checking
-pub mod DualWeights
+pub mod Multipliers
 pub mod DualCode

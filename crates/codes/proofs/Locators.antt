@@ -1,15 +1,18 @@
 -- Dual locators exist and are the only ones.
 --
--- The coefficient n - 1 of a polynomial with at most n coefficients is a sum over n sharp points of weight × value. The weight of a
--- place is the coefficient n - 1 of the polynomial that is one there and zero at the other places. The powers up to n - 2 have no
--- such coefficient, so weights are dual locators up to a factor; and any row that has the sum zero with them is a multiple of the weights.
+-- The coefficient n - 1 of a polynomial with at most n coefficients is a sum over n sharp points of multiplier × value. The
+-- multiplier of a place is the coefficient n - 1 of the polynomial that is one there and zero at the other places. The powers up
+-- to n - 2 have no such coefficient, so multipliers are dual locators up to a factor; and any row that has the sum zero with
+-- these powers is a multiple of the multipliers.
 --
---   Weight pts m i r w     w is the coefficient m of a polynomial that is one at place i and zero at the i before and the r behind it
---   Weights pts m i ws     so it is with the places from i on
-use mathlib.Core.Path.{_≡_, refl, sym, _∙_, ap, subst}
+--   Multiplier pts m i r w     w is the coefficient m of a polynomial that is one at place i and zero at the i before and the r
+--                              behind it
+--   Multipliers pts m i ws     so it is with the places from i on
+--   moment                     the sum of dual locator × power n - 1
+use mathlib.Core.Path.{_≡_, refl, sym, _∙_, ap}
 use mathlib.Core.Logic.{_≢_}
-use mathlib.Core.List.{List, [], _∷_, map, _++_, append-nil}
-use Prim.Native.Nat.{ℕ, suc, _≤_, _<_, max, _+_ as _+ℕ_, _-_}
+use mathlib.Core.List.{List, [], _∷_, _++_, append-nil}
+use Prim.Native.Nat.{ℕ, suc, _≤_, _+_ as _+ℕ_, _-_}
 use native.Mathlib.Omega.{arith}
 use lib.ListN.{length, length-map, length-append, replicate, length-replicate, List·getD-eq-default}
 use Rattle.fields.specs.Lists.{All}
@@ -25,7 +28,7 @@ use Rattle.skew.proofs.Multiplication
 use Rattle.skew.proofs.Sharpness
 use Rattle.skew.proofs.Sharpness.{Nil, Sharp}
 use Rattle.codes.specs.Duals.{powers, Dual-locators, Duals-there, Duals-alone}
-use Rattle.codes.specs.DualAnswers.{unit, Weight, Weights}
+use Rattle.codes.specs.DualAnswers.{unit, Multiplier, Multipliers}
 use Rattle.codes.proofs.Combs
 use Rattle.codes.proofs.Interpolants
 
@@ -38,12 +41,12 @@ module _ {F : Type 0} {o : Ops F} (l : Laws o) where
   length-unit : (i r : ℕ) → length (unit o i r) ≡ i +ℕ suc r
   length-unit i r = omega (arith, length-append (replicate i zero) (one ∷ replicate r zero), length-replicate i zero, length-replicate r zero)
 
-  -- Sharp points have weights.
-  pub weights-there : (pts : List (F × F)) (m : ℕ) → Sharp o pts → (i r : ℕ) → i +ℕ r ≡ length pts → (ws : List F) × (length ws ≡ r) × Weights o pts m i ws
-  weights-there pts m h i ℕ.zero e = ([], refl, tt)
-  weights-there pts m h i (suc r) e =
+  -- Sharp points have multipliers.
+  pub multipliers-there : (pts : List (F × F)) (m : ℕ) → Sharp o pts → (i r : ℕ) → i +ℕ r ≡ length pts → (ws : List F) × (length ws ≡ r) × Multipliers o pts m i ws
+  multipliers-there pts m h i ℕ.zero e = ([], refl, tt)
+  multipliers-there pts m h i (suc r) e =
       let f = Interpolants.interpolated l pts (unit o i r) h (length-unit i r ∙ e) in
-      let ws = weights-there pts m h (suc i) r (omega arith) in
+      let ws = multipliers-there pts m h (suc i) r (omega arith) in
       (coef o (f .0) m ∷ ws .0, ap suc (ws .1), ((f .0, f .1, f .2 ∙ ap (unit o i) (sym (ws .1)), refl), ws .2))
 
   -- Values of a sum of polynomials, place by place.
@@ -66,8 +69,8 @@ module _ {F : Type 0} {o : Ops F} (l : Laws o) where
   plus-unit ℕ.zero v vs = cons-path (simp (ring, l)) (plus-zeros v vs)
   plus-unit (suc i) v vs = cons-path (simp (ring, l)) (plus-unit i v vs)
 
-  -- A polynomial with given values from the place i on, and zero before; its coefficient m by the weights.
-  blend : (pts : List (F × F)) (m i : ℕ) (ws vs : List F) → length vs ≡ length ws → i +ℕ length ws ≡ length pts → Weights o pts m i ws
+  -- A polynomial with given values from the place i on, and zero before; its coefficient m by the multipliers.
+  blend : (pts : List (F × F)) (m i : ℕ) (ws vs : List F) → length vs ≡ length ws → i +ℕ length ws ≡ length pts → Multipliers o pts m i ws
       → (g : List F) × (length g ≤ length pts) × (values o g pts ≡ replicate i zero ++ vs) × (coef o g m ≡ comb o ws vs)
   blend pts m i [] [] lv e h =
       ([], omega arith, values-nothing pts ∙ ap (λ n. replicate n zero) (let k : length pts ≡ i = omega arith in k) ∙ sym (append-nil (replicate i zero)), refl)
@@ -83,9 +86,9 @@ module _ {F : Type 0} {o : Ops F} (l : Laws o) where
         Multiplication.coef-plus l (scale o v (f .0)) (g .0) m ∙ ap (λ x. x + coef o (g .0) m) (Multiplication.coef-scale l v (f .0) m ∙ ap (λ x. v * x) (f .3) ∙ Basics.mul-comm l v w) ∙ ap (λ x. w * v + x) (g .3),
       )
 
-  -- The coefficient m of a polynomial is the sum of weight × value.
-  pub by-weights : (pts : List (F × F)) (m : ℕ) (ws f : List F) → Sharp o pts → length ws ≡ length pts → Weights o pts m 0 ws → length f ≤ length pts → coef o f m ≡ comb o ws (values o f pts)
-  by-weights pts m ws f h lw w lf =
+  -- The coefficient m of a polynomial is the sum of multiplier × value.
+  pub by-multipliers : (pts : List (F × F)) (m : ℕ) (ws f : List F) → Sharp o pts → length ws ≡ length pts → Multipliers o pts m 0 ws → length f ≤ length pts → coef o f m ≡ comb o ws (values o f pts)
+  by-multipliers pts m ws f h lw w lf =
       let g = blend pts m 0 ws (values o f pts) (length-map pts (at o f) ∙ sym lw) (omega arith) w in
       Interpolants.values-tell l pts f (g .0) h lf (g .1) (sym (g .2)) m ∙ g .3
 
@@ -96,30 +99,30 @@ module _ {F : Type 0} {o : Ops F} (l : Laws o) where
   comb-nil (x ∷ xs) p (t ∷ pts) h =
       ap (λ w. x * w + comb o xs (values o p pts)) (Interpolants.by-sum l (λ v. v (t .0) p (t .1) ≡ zero) (h .0)) ∙ ap (λ w. x * zero + w) (comb-nil xs p pts (h .1)) ∙ simp (ring, l)
 
-  -- The first weight is not zero.
-  pub first-weight : (pts : List (F × F)) (m : ℕ) (ws : List F) → Sharp o pts → length pts ≡ suc m → length ws ≡ length pts → Weights o pts m 0 ws → coef o ws 0 ≢ zero
-  first-weight [] m ws h len lw w = absurd (omega arith)
-  first-weight (t ∷ pts) m [] h len lw w = absurd (omega arith)
-  first-weight (t ∷ pts) m (x ∷ xs) h len lw w =
+  -- The first multiplier is not zero.
+  pub first-multiplier : (pts : List (F × F)) (m : ℕ) (ws : List F) → Sharp o pts → length pts ≡ suc m → length ws ≡ length pts → Multipliers o pts m 0 ws → coef o ws 0 ≢ zero
+  first-multiplier [] m ws h len lw w = absurd (omega arith)
+  first-multiplier (t ∷ pts) m [] h len lw w = absurd (omega arith)
+  first-multiplier (t ∷ pts) m (x ∷ xs) h len lw w =
       let s = Interpolants.annihilated l pts in
       let k : length pts ≡ m = omega arith in
       Basics.unit-nonzero l x (at o (s .0) t)
-      (sym (by-weights (t ∷ pts) m (x ∷ xs) (s .0) h lw w (omega (arith, s .1)) ∙ ap (λ y. x * at o (s .0) t + y) (comb-nil xs (s .0) pts (s .3)) ∙ Basics.add-zero l _)
+      (sym (by-multipliers (t ∷ pts) m (x ∷ xs) (s .0) h lw w (omega (arith, s .1)) ∙ ap (λ y. x * at o (s .0) t + y) (comb-nil xs (s .0) pts (s .3)) ∙ Basics.add-zero l _)
       ∙ ap (coef o (s .0)) (sym k) ∙ s .2)
 
-  -- The sum of weight × power is zero up to n - 2.
-  weights-null : (pts : List (F × F)) (m : ℕ) (ws : List F) (i : ℕ) → Sharp o pts → length pts ≡ suc m → length ws ≡ length pts → Weights o pts m 0 ws → i +ℕ 2 ≤ length pts → comb o ws (powers o i pts) ≡ zero
-  weights-null pts m ws i h len lw w k =
+  -- The sum of multiplier × power is zero up to n - 2.
+  multipliers-null : (pts : List (F × F)) (m : ℕ) (ws : List F) (i : ℕ) → Sharp o pts → length pts ≡ suc m → length ws ≡ length pts → Multipliers o pts m 0 ws → i +ℕ 2 ≤ length pts → comb o ws (powers o i pts) ≡ zero
+  multipliers-null pts m ws i h len lw w k =
       ap (comb o ws) (sym (Interpolants.values-monomial l i pts))
-      ∙ sym (by-weights pts m ws (Interpolants.monomial l i) h lw w (omega (arith, Interpolants.length-monomial l i)))
+      ∙ sym (by-multipliers pts m ws (Interpolants.monomial l i) h lw w (omega (arith, Interpolants.length-monomial l i)))
       ∙ List·getD-eq-default (Interpolants.monomial l i) zero (omega (arith, Interpolants.length-monomial l i))
 
-  -- Weights divided by the first are dual locators.
-  pub dual-of-weights : (pts : List (F × F)) (m : ℕ) (ws : List F) → Sharp o pts → length pts ≡ suc m → length ws ≡ length pts → Weights o pts m 0 ws → Dual-locators o pts (scale o (inv (coef o ws 0)) ws)
-  dual-of-weights pts m ws h len lw w = record {
+  -- Multipliers divided by the first are dual locators.
+  pub dual-of-multipliers : (pts : List (F × F)) (m : ℕ) (ws : List F) → Sharp o pts → length pts ≡ suc m → length ws ≡ length pts → Multipliers o pts m 0 ws → Dual-locators o pts (scale o (inv (coef o ws 0)) ws)
+  dual-of-multipliers pts m ws h len lw w = record {
     size = length-map ws (o .mul (inv (coef o ws 0))) ∙ lw;
-    first = Multiplication.coef-scale l (inv (coef o ws 0)) ws 0 ∙ Basics.inv-mul l (coef o ws 0) (first-weight pts m ws h len lw w);
-    null = λ i k. Rows.comb-scale l (inv (coef o ws 0)) ws (powers o i pts) ∙ ap (λ x. inv (coef o ws 0) * x) (weights-null pts m ws i h len lw w k) ∙ Basics.mul-zero l _;
+    first = Multiplication.coef-scale l (inv (coef o ws 0)) ws 0 ∙ Basics.inv-mul l (coef o ws 0) (first-multiplier pts m ws h len lw w);
+    null = λ i k. Rows.comb-scale l (inv (coef o ws 0)) ws (powers o i pts) ∙ ap (λ x. inv (coef o ws 0) * x) (multipliers-null pts m ws i h len lw w k) ∙ Basics.mul-zero l _;
   }
 
   -- There is a place, since the first dual locator is one.
@@ -128,7 +131,7 @@ module _ {F : Type 0} {o : Ops F} (l : Laws o) where
   some-place [] (x ∷ xs) d = absurd (omega (arith, d .size))
   some-place (t ∷ pts) xs d = omega arith
 
-  -- Dual locators, and n sharp points with their weights.
+  -- Dual locators, and n sharp points with their multipliers.
   module _ (pts : List (F × F)) (xs : List F) (m : ℕ) (h : Sharp o pts) (len : length pts ≡ suc m) (d : Dual-locators o pts xs) where
     -- The sum with the power n - 1.
     abbrev pub moment : F
@@ -138,24 +141,24 @@ module _ {F : Type 0} {o : Ops F} (l : Laws o) where
     pub sum-by-top : (g vs : List F) → length g ≤ length pts → values o g pts ≡ vs → comb o xs vs ≡ coef o g m * moment
     sum-by-top g vs lg fits = ap (comb o xs) (sym fits) ∙ Combs.comb-values l xs g pts ∙ Combs.series-top l (λ i. comb o xs (powers o i pts)) g m (omega arith) (λ i k. d .null i (omega arith))
 
-    -- So dual locators are a multiple of the weights.
-    proportional : (ws : List F) → length ws ≡ length pts → Weights o pts m 0 ws → xs ≡ scale o moment ws
+    -- So dual locators are a multiple of the multipliers.
+    proportional : (ws : List F) → length ws ≡ length pts → Multipliers o pts m 0 ws → xs ≡ scale o moment ws
     proportional ws lw w =
         Combs.comb-tells l xs (scale o moment ws) (d .size ∙ sym (length-map ws (o .mul moment) ∙ lw))
         (λ vs k. let g = Interpolants.interpolated l pts vs h (k ∙ d .size) in
-        sum-by-top (g .0) vs (g .1) (g .2) ∙ ap (λ x. x * moment) (by-weights pts m ws (g .0) h lw w (g .1) ∙ ap (comb o ws) (g .2)) ∙ Basics.mul-comm l _ _
+        sum-by-top (g .0) vs (g .1) (g .2) ∙ ap (λ x. x * moment) (by-multipliers pts m ws (g .0) h lw w (g .1) ∙ ap (comb o ws) (g .2)) ∙ Basics.mul-comm l _ _
         ∙ sym (Rows.comb-scale l moment ws vs))
 
-    -- The factor is the inverse of the first weight.
-    moment-inverse : (ws : List F) → length ws ≡ length pts → Weights o pts m 0 ws → moment * coef o ws 0 ≡ one
+    -- The factor is the inverse of the first multiplier.
+    moment-inverse : (ws : List F) → length ws ≡ length pts → Multipliers o pts m 0 ws → moment * coef o ws 0 ≡ one
     moment-inverse ws lw w = sym (Multiplication.coef-scale l moment ws 0) ∙ ap (λ ys. coef o ys 0) (sym (proportional ws lw w)) ∙ d .first
 
     -- It is not zero.
     pub moment-nonzero : moment ≢ zero
-    moment-nonzero = let ws = weights-there pts m h 0 (length pts) (omega arith) in Basics.unit-nonzero l _ _ (moment-inverse (ws .0) (ws .1) (ws .2))
+    moment-nonzero = let ws = multipliers-there pts m h 0 (length pts) (omega arith) in Basics.unit-nonzero l _ _ (moment-inverse (ws .0) (ws .1) (ws .2))
 
-    -- Dual locators are the weights, divided by the first.
-    pub dual-is : (ws : List F) → length ws ≡ length pts → Weights o pts m 0 ws → xs ≡ scale o (inv (coef o ws 0)) ws
+    -- Dual locators are the multipliers, divided by the first.
+    pub dual-is : (ws : List F) → length ws ≡ length pts → Multipliers o pts m 0 ws → xs ≡ scale o (inv (coef o ws 0)) ws
     dual-is ws lw w = proportional ws lw w ∙ ap (λ c. scale o c ws) (sym (Basics.inv-unique l (coef o ws 0) moment (Basics.mul-comm l _ _ ∙ moment-inverse ws lw w)))
 
   -- Sharp points have one row of dual locators.
@@ -164,7 +167,7 @@ module _ {F : Type 0} {o : Ops F} (l : Laws o) where
       let k = some-place pts xs d in
       let m = length pts - 1 in
       let len : length pts ≡ suc m = omega arith in
-      let ws = weights-there pts m h 0 (length pts) (omega arith) in
+      let ws = multipliers-there pts m h 0 (length pts) (omega arith) in
       dual-is pts xs m h len d (ws .0) (ws .1) (ws .2) ∙ sym (dual-is pts ys m h len e (ws .0) (ws .1) (ws .2))
 
   -- Lawful points have dual locators.
@@ -174,8 +177,8 @@ module _ {F : Type 0} {o : Ops F} (l : Laws o) where
       let m = length pts - 1 in
       let len : length pts ≡ suc m = omega (arith, Sharpness.length-points l blocks) in
       let sharp = Sharpness.sharp-lawful l blocks h in
-      let ws = weights-there pts m sharp 0 (length pts) (omega arith) in
-      (scale o (inv (coef o (ws .0) 0)) (ws .0), dual-of-weights pts m (ws .0) sharp len (ws .1) (ws .2))
+      let ws = multipliers-there pts m sharp 0 (length pts) (omega arith) in
+      (scale o (inv (coef o (ws .0) 0)) (ws .0), dual-of-multipliers pts m (ws .0) sharp len (ws .1) (ws .2))
 
   -- And no others.
   pub duals-alone : Duals-alone o

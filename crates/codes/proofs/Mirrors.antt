@@ -13,7 +13,7 @@ use lib.ListN.{length, length-map, length-drop, take, drop}
 use Rattle.fields.specs.Field.{Ops, Laws, mirror, comb}
 use Rattle.fields.proofs.Basics
 use Rattle.fields.proofs.Basics.{ring}
-use Rattle.skew.specs.Values.{twisted, norm, series, step}
+use Rattle.skew.specs.Values.{twisted, norm, series}
 use Rattle.skew.specs.Roots.{Block, block, places, points}
 use Rattle.skew.specs.Products.{coef}
 use Rattle.skew.specs.Interpolation.{values}

@@ -1,14 +1,15 @@
--- What the functions on duals and syndromes promise.
+-- What the functions on duals and syndromes promise. The first two are for callers; the rest is between the functions.
 --
---   Checked m ps ds k w ss  ss are the first n - k syndromes of w; for lawful points and their dual locators, all are 0 exactly where w is
---                           a codeword
---   Located m ps ds        ds is in codes, and is the row of dual locators of the points, where these are lawful
---   unit o i r             one behind i zeros and before r zeros
---   Weight o pts m i r w   w is the coefficient m of a polynomial with these values, and with at most as many coefficients as points
---   Weights o pts m i ws   so it is of each place from i on
---   Weighed m ps i w       w is the weight of place i of the program's points, where m is their number less one
---   Weighted m ps ws       ws are the weights of all places
---   advanced m ps ts       each term times the parameter of its place, untwisted
+--   Located m ps ds            ds is in codes, and is the row of dual locators of the points, where these are lawful
+--   Checked m ps ds k w ss     ss are the first n - k syndromes of w; for lawful points and their dual locators, all are 0
+--                              exactly where w is a codeword
+--   unit o i r                 one behind i zeros and before r zeros
+--   Multiplier o pts m i r w   w is the coefficient m of a polynomial with the values unit o i r at the points, and with at
+--                              most as many coefficients as there are points
+--   Multipliers o pts m i ws   so it is of each place from i on
+--   Multiplier-at m ps i w     w is the multiplier of place i of the program's points, for the coefficient n - 1
+--   Multipliers-of m ps ws     ws are the multipliers of all places
+--   advanced m ps ts           each term times the parameter of its place, untwisted
 use mathlib.Core.Path.{_≡_}
 use mathlib.Core.Logic.{_↔_}
 use mathlib.Core.List.{List, [], _∷_, _++_}
@@ -46,19 +47,19 @@ module _ {F : Type 0} (o : Ops F) where
   abbrev pub unit : ℕ → ℕ → List F
   unit i r = replicate i (o .zero) ++ o .one ∷ replicate r (o .zero)
 
-  abbrev pub Weight : List (F × F) → ℕ → ℕ → ℕ → F → Type 0
-  Weight pts m i r w = (f : List F) × (length f ≤ length pts) × (values o f pts ≡ unit i r) × (coef o f m ≡ w)
+  abbrev pub Multiplier : List (F × F) → ℕ → ℕ → ℕ → F → Type 0
+  Multiplier pts m i r w = (f : List F) × (length f ≤ length pts) × (values o f pts ≡ unit i r) × (coef o f m ≡ w)
 
-  abbrev pub Weights : List (F × F) → ℕ → ℕ → List F → Type 0
-  Weights pts m i [] = Unit {0}
-  Weights pts m i (w ∷ ws) = Weight pts m i (length ws) w × Weights pts m (suc i) ws
+  abbrev pub Multipliers : List (F × F) → ℕ → ℕ → List F → Type 0
+  Multipliers pts m i [] = Unit {0}
+  Multipliers pts m i (w ∷ ws) = Multiplier pts m i (length ws) w × Multipliers pts m (suc i) ws
 
-pub record Weighed (m : Meaning) (ps : List Point) (i w : ℕ) : Type 0 where
-  pub weight : Weight (ops m) (places m ps) (length ps - 1) i (length ps - suc i) (elem m w)
+pub record Multiplier-at (m : Meaning) (ps : List Point) (i w : ℕ) : Type 0 where
+  pub multiplier : Multiplier (ops m) (places m ps) (length ps - 1) i (length ps - suc i) (elem m w)
 
-pub record Weighted (m : Meaning) (ps : List Point) (ws : List ℕ) : Type 0 where
+pub record Multipliers-of (m : Meaning) (ps : List Point) (ws : List ℕ) : Type 0 where
   pub size : length ws ≡ length ps
-  pub weights : Weights (ops m) (places m ps) (length ps - 1) 0 (elems m ws)
+  pub multipliers : Multipliers (ops m) (places m ps) (length ps - 1) 0 (elems m ws)
 
 abbrev pub advanced : (m : Meaning) → List Point → List (Elem m) → List (Elem m)
 advanced m [] ts = []

@@ -10,7 +10,7 @@ ghost use Rattle.fields.specs.Elements.{elem, elems, codes, ops};
 ghost use Rattle.skew.specs.Interpolation.{Unlawful};
 ghost use Rattle.codes.specs.Holdings.{held};
 ghost use Rattle.codes.specs.Duals.{Duality};
-ghost use Rattle.codes.specs.DualAnswers.{Located, Weighed, Weighted};
+ghost use Rattle.codes.specs.DualAnswers.{Located, Multiplier-at, Multipliers-of};
 use super::symbols::ROOM;
 use super::symbols::Symbols;
 use fields::Kind;
@@ -22,16 +22,16 @@ use skew::interpolate;
 // codewords. Theorems, which this contract asks for.
 pub fn duals_stand<K: Kind>(kind: &K) -> u8
     ensures duality { λ _. ⌜ Duality (ops (meaning (now (kind .entry)))) ⌝ }
-    ensures mirror { λ _. let m = meaning (now (kind .entry)) in ⌜ ops (mirrored m) ≡ mirror (ops m) ⌝ }
+    ensures mirrors { λ _. let m = meaning (now (kind .entry)) in ⌜ ops (mirrored m) ≡ mirror (ops m) ⌝ }
 {
     0
 }
 
-// The weight of place i: the highest coefficient of the polynomial that is 1 there and 0 at the other points. Nothing for
-// some points that are not lawful.
-fn weight<K: Kind>(kind: &K, points: &[Point], i: usize) -> Option<u8>
+// The multiplier of place i: the highest coefficient of the polynomial that is 1 there and 0 at the other points. Nothing
+// for some points that are not lawful.
+fn multiplier<K: Kind>(kind: &K, points: &[Point], i: usize) -> Option<u8>
     requires { ⌜ i < length (now points) ⌝ ∗ ⌜ length (now points) ≤ 24 ⌝ }
-    ensures { λ r. let m = meaning (now (kind .entry)) in let ps = now (points .entry) in ⌜ Cases r (Unlawful m ps) (λ w. Weighed m ps i w) ⌝ }
+    ensures { λ r. let m = meaning (now (kind .entry)) in let ps = now (points .entry) in ⌜ Cases r (Unlawful m ps) (λ w. Multiplier-at m ps i w) ⌝ }
 {
     let mut row = [0; ROOM];
     row[i] = 1;
@@ -39,14 +39,14 @@ fn weight<K: Kind>(kind: &K, points: &[Point], i: usize) -> Option<u8>
     Some(f.get(points.len() - 1))
 }
 
-// The weights of all places.
-fn weights<K: Kind>(kind: &K, points: &[Point]) -> Option<Symbols>
+// The multipliers of all places.
+fn multipliers<K: Kind>(kind: &K, points: &[Point]) -> Option<Symbols>
     requires { ⌜ length (now points) ≤ 24 ⌝ }
-    ensures { λ r. let m = meaning (now (kind .entry)) in let ps = now (points .entry) in ⌜ Cases r (Unlawful m ps) (λ s. Weighted m ps (held s)) ⌝ }
+    ensures { λ r. let m = meaning (now (kind .entry)) in let ps = now (points .entry) in ⌜ Cases r (Unlawful m ps) (λ s. Multipliers-of m ps (held s)) ⌝ }
 {
     let mut out = Symbols::empty();
     for i in 0..points.len() {
-        let w = weight(kind, points, i)?;
+        let w = multiplier(kind, points, i)?;
         out.push(w);
     }
     Some(out)
@@ -77,7 +77,7 @@ pub fn dual_locators<K: Kind>(kind: &K, points: &[Point]) -> Option<Symbols>
     if points.len() > ROOM {
         return None;
     }
-    let ws = weights(kind, points)?;
+    let ws = multipliers(kind, points)?;
     let first = ws.get(0);
     let inverse = kind.inverse(first)?;
     Some(scaled(kind, inverse, ws.as_slice()))

@@ -17,12 +17,12 @@ use super::conjugacy::conjugate;
 use super::faults::Fault;
 use super::faults::Layer;
 use super::faults::Reason;
-use super::symbols::Symbols;
 use super::ranks::dependent_at;
 use super::route::Course;
 use super::shape::Code;
 use super::sheets::Sheet;
 use super::sheets::read_sheet;
+use super::symbols::Symbols;
 use fields::Kind;
 use skew::Point;
 

@@ -1,8 +1,8 @@
 // A code: its dimension, the lengths of its blocks, and a point for each symbol. The struct stands alone in its file, since
 // specs name it; that its points are lawful over a kind is a predicate there, which whoever makes a code promises.
 ghost use Prim.Native.Nat.{_≤_};
-use super::symbols::Symbols;
 use super::route::Course;
+use super::symbols::Symbols;
 
 #[derive(Clone, Copy)]
 pub struct Code {

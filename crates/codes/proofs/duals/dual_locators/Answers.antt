@@ -1,7 +1,6 @@
-use borrow.Author.Needs.{needs}
 use native.Mathlib.Omega.{arith}
 use mathlib.Core.Logic.{inr}
-use Rattle.codes.proofs.DualWeights.{located, first-missing}
+use Rattle.codes.proofs.Multipliers.{located, first-missing}
 use Rattle.codes.proofs.duals.dual_locators.Needs as need
 
 pub returns : need.returns

@@ -1,6 +1,6 @@
 use native.Mathlib.Omega.{arith}
 use Rattle.codes.proofs.Holding.{nothing, filled}
-use Rattle.codes.proofs.DualWeights.{scaled-more, length-scaled}
+use Rattle.codes.proofs.Multipliers.{scaled-more, length-scaled}
 use Rattle.codes.proofs.duals.scaled.Needs as need
 
 pub loop-x-holds : need.loop-x-holds

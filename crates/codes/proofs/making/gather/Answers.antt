@@ -18,15 +18,28 @@ part-part-end g c = fits (g .K·Kind .meaning (c .args .kind .now)) (c .args .le
 pub add-at : need.add-at
 add-at g c =
     record {
-      fits = omega (arith, fits (g .K·Kind .meaning (c .args .kind .now)) (c .args .lengths .now) (c .args .parameters .now) (c .args .locators .now) (c .loop-i-test .taken) (c .pre .sum) (c .loop-i .inv), c .pre .sum, c .pre .few, c .in-Some .ensures tt .within,
-        length-take (c .loop-i .at + getD (c .args .lengths .now) (c .loop-i .i) 0 - c .loop-i .at) (drop (c .loop-i .at) (c .args .locators .now)));
+      fits = omega (
+        arith,
+        fits (g .K·Kind .meaning (c .args .kind .now)) (c .args .lengths .now) (c .args .parameters .now) (c .args .locators .now) (c .loop-i-test .taken) (c .pre .sum) (c .loop-i .inv),
+        c .pre .sum,
+        c .pre .few,
+        c .in-Some .ensures tt .within,
+        length-take (c .loop-i .at + getD (c .args .lengths .now) (c .loop-i .i) 0 - c .loop-i .at) (drop (c .loop-i .at) (c .args .locators .now)),
+      );
     }
 
 pub add-base : need.add-base
 add-base g c =
     record {
-      fits = omega (arith, fits (g .K·Kind .meaning (c .args .kind .now)) (c .args .lengths .now) (c .args .parameters .now) (c .args .locators .now) (c .loop-i-test .taken) (c .pre .sum) (c .loop-i .inv), c .pre .sum, c .pre .few, c .pre .near, c .in-Some .ensures tt .within,
-        length-take (c .loop-i .at + getD (c .args .lengths .now) (c .loop-i .i) 0 - c .loop-i .at) (drop (c .loop-i .at) (c .args .locators .now)));
+      fits = omega (
+        arith,
+        fits (g .K·Kind .meaning (c .args .kind .now)) (c .args .lengths .now) (c .args .parameters .now) (c .args .locators .now) (c .loop-i-test .taken) (c .pre .sum) (c .loop-i .inv),
+        c .pre .sum,
+        c .pre .few,
+        c .pre .near,
+        c .in-Some .ensures tt .within,
+        length-take (c .loop-i .at + getD (c .args .lengths .now) (c .loop-i .i) 0 - c .loop-i .at) (drop (c .loop-i .at) (c .args .locators .now)),
+      );
     }
 
 pub returns-in-Some : need.returns-in-Some

@@ -37,7 +37,7 @@ returns-in-Break-course g c =
     let p = err-from-errBy (c .from-residual .result) (c .from-residual .ensures .1) in
     rw (p .1, p .2)
     (unfit-dependent (g .K·Kind .meaning (c .args .kind .now)) (c .args .sheet) (c .pre .laid) (c .bytes-lengths .ensures) (c .bytes-parameters .ensures) (c .in-rest .ensures tt) (c .bytes-locators .ensures)
-      (c .in-rest-first-outside .ensures tt) (c .in-rest-first-related .ensures tt) (c .in-Break-course .ensures tt) (c .offset-2 .ensures))
+    (c .in-rest-first-outside .ensures tt) (c .in-rest-first-related .ensures tt) (c .in-Break-course .ensures tt) (c .offset-2 .ensures))
 
 pub returns : need.returns
 returns g c =

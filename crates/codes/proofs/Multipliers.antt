@@ -1,11 +1,11 @@
 -- The loops of the functions on dual locators, over plain numbers.
 --
---   Weighing m ps i out    out holds the weights of the first i places
+--   Gathering m ps i out    out holds the multipliers of the first i places
 use mathlib.Core.Path.{_≡_, refl, sym, ap, _∙_, subst}
 use mathlib.Core.List.{List, [], _∷_, _++_}
 use Prim.Native.Nat.{ℕ, suc, _+_, _-_, _<_, _≤_}
 use native.Mathlib.Omega.{arith}
-use borrow.Author.Count.{below-none, below-more}
+use borrow.Author.Count.{below-more}
 use lib.ListN.{length, getD, set, take, replicate, length-map}
 use Rattle.std.specs.declared.option.Option.the-variants.{Some, None}
 use Rattle.std.proofs.shelf.Lists.{take-all, take-replicate, length-push, getD-push, getD-append-left, getD-map}
@@ -24,14 +24,14 @@ use Rattle.skew.proofs.Sharpness
 use Rattle.skew.proofs.Sharpness.{Sharp}
 use Rattle.skew.proofs.Growing.{inverse-some, inverse-none}
 use Rattle.codes.specs.Duals.{Dual-locators}
-use Rattle.codes.specs.DualAnswers.{Located, unit, Weight, Weights, Weighed, Weighted}
+use Rattle.codes.specs.DualAnswers.{Located, unit, Multiplier, Multipliers, Multiplier-at, Multipliers-of}
 use Rattle.codes.proofs.Locators
 use Rattle.codes.proofs.DualCodes
 use Rattle.codes.proofs.Holding.{Filling, fill, uncut}
 
-pub record Weighing (m : Meaning) (ps : List Point) (i : ℕ) (out : List ℕ) : Type 0 where
+pub record Gathering (m : Meaning) (ps : List Point) (i : ℕ) (out : List ℕ) : Type 0 where
   pub size : length out ≡ i
-  pub each : (j : ℕ) → j < i → Weight (ops m) (places m ps) (length ps - 1) j (length ps - suc j) (elem m (getD out j 0))
+  pub each : (j : ℕ) → j < i → Multiplier (ops m) (places m ps) (length ps - 1) j (length ps - suc j) (elem m (getD out j 0))
 
 -- The first n of c cells that are 0 but for a 1 at place i.
 unit-row : (c n i : ℕ) → i < n → n ≤ c → take n (set (replicate {A = ℕ} c 0) i 1) ≡ replicate i 0 ++ 1 ∷ replicate (n - suc i) 0
@@ -61,11 +61,11 @@ module _ {m : Meaning} (l : Laws m) where
   pub length-places : (ps : List Point) → length (places m ps) ≡ length ps
   length-places ps = length-map {B = Elem m × Elem m} ps (place m)
 
-  -- What `weight` answers.
-  pub weighed : (ps : List Point) (i : ℕ) {vs f : List ℕ} {w : ℕ} → i < length ps → length ps ≤ 24 → vs ≡ take (length ps) (set (replicate 24 0) i 1)
-      → Interpolated m ps vs f → w ≡ getD f (length ps - 1) 0 → Weighed m ps i w
-  weighed ps i {vs} {f} {w} h few ev p ew = record {
-    weight = (
+  -- What `multiplier` answers.
+  pub multiplier-is : (ps : List Point) (i : ℕ) {vs f : List ℕ} {w : ℕ} → i < length ps → length ps ≤ 24 → vs ≡ take (length ps) (set (replicate 24 0) i 1)
+      → Interpolated m ps vs f → w ≡ getD f (length ps - 1) 0 → Multiplier-at m ps i w
+  multiplier-is ps i {vs} {f} {w} h few ev p ew = record {
+    multiplier = (
       elems m f,
       omega (arith, length-map f (elem m), length-places ps, p .size),
       p .has ∙ ap (elems m) (ev ∙ unit-row 24 (length ps) i h few) ∙ elems-unit i (length ps - suc i),
@@ -73,40 +73,40 @@ module _ {m : Meaning} (l : Laws m) where
     );
   }
 
-  -- No weight yet.
-  pub weights-start : (ps : List Point) {out : List ℕ} → out ≡ [] → Weighing m ps 0 out
-  weights-start ps {out} e = record { size = ap length e; each = λ j h. absurd (omega arith) }
+  -- No multiplier yet.
+  pub multipliers-start : (ps : List Point) {out : List ℕ} → out ≡ [] → Gathering m ps 0 out
+  multipliers-start ps {out} e = record { size = ap length e; each = λ j h. absurd (omega arith) }
 
   -- One place more.
-  pub weights-go-on : (ps : List Point) {i w : ℕ} {out more : List ℕ} → i < length ps → length ps ≤ 24 → Weighing m ps i out → Weighed m ps i w → more ≡ take 24 (out ++ w ∷ [])
-      → Weighing m ps (i + 1) more
-  weights-go-on ps {i} {w} {out} {more} h few s p e =
+  pub multipliers-go-on : (ps : List Point) {i w : ℕ} {out more : List ℕ} → i < length ps → length ps ≤ 24 → Gathering m ps i out → Multiplier-at m ps i w → more ≡ take 24 (out ++ w ∷ [])
+      → Gathering m ps (i + 1) more
+  multipliers-go-on ps {i} {w} {out} {more} h few s p e =
       let e2 : more ≡ out ++ w ∷ [] = e ∙ take-all 24 (out ++ w ∷ []) (omega (arith, length-push out w, s .size)) in
-      let P : ℕ → ℕ → Type 0 = λ j x. Weight (ops m) (places m ps) (length ps - 1) j (length ps - suc j) (elem m x) in
+      let P : ℕ → ℕ → Type 0 = λ j x. Multiplier (ops m) (places m ps) (length ps - 1) j (length ps - suc j) (elem m x) in
       record {
         size = ap length e2 ∙ length-push out w ∙ ap (λ n. n + 1) (s .size);
         each = below-more (λ j. P j (getD more j 0)) i
             (λ j k. subst (P j) (sym (ap (λ xs. getD xs j 0) e2 ∙ getD-append-left out (w ∷ []) 0 j (omega (arith, s .size)))) (s .each j k))
-            (subst (P i) (sym (ap (λ xs. getD xs i 0) e2 ∙ getD-push out w 0 i (s .size))) (p .weight));
+            (subst (P i) (sym (ap (λ xs. getD xs i 0) e2 ∙ getD-push out w 0 i (s .size))) (p .multiplier));
       }
 
-  -- Weights place by place are weights from the first place on.
-  weights-listed : (ps : List Point) (i : ℕ) (ws : List ℕ) → i + length ws ≡ length ps
-      → ((j : ℕ) → j < length ws → Weight (ops m) (places m ps) (length ps - 1) (i + j) (length ps - suc (i + j)) (elem m (getD ws j 0))) → Weights (ops m) (places m ps) (length ps - 1) i (elems m ws)
-  weights-listed ps i [] e h = tt
-  weights-listed ps i (w ∷ ws) e h = (
-    subst (λ r. Weight (ops m) (places m ps) (length ps - 1) i r (elem m w)) (let k : length ps - suc i ≡ length (elems m ws) = omega (arith, length-map ws (elem m)) in k)
-        (subst (λ j. Weight (ops m) (places m ps) (length ps - 1) j (length ps - suc j) (elem m w)) (let k : i + 0 ≡ i = omega arith in k) (h 0 (omega arith))),
-    weights-listed ps (suc i) ws (omega arith)
-        (λ j k. subst (λ n. Weight (ops m) (places m ps) (length ps - 1) n (length ps - suc n) (elem m (getD ws j 0))) (let z : i + suc j ≡ suc i + j = omega arith in z) (h (suc j) (omega arith))),
+  -- Multipliers place by place are multipliers from the first place on.
+  multipliers-listed : (ps : List Point) (i : ℕ) (ws : List ℕ) → i + length ws ≡ length ps
+      → ((j : ℕ) → j < length ws → Multiplier (ops m) (places m ps) (length ps - 1) (i + j) (length ps - suc (i + j)) (elem m (getD ws j 0))) → Multipliers (ops m) (places m ps) (length ps - 1) i (elems m ws)
+  multipliers-listed ps i [] e h = tt
+  multipliers-listed ps i (w ∷ ws) e h = (
+    subst (λ r. Multiplier (ops m) (places m ps) (length ps - 1) i r (elem m w)) (let k : length ps - suc i ≡ length (elems m ws) = omega (arith, length-map ws (elem m)) in k)
+        (subst (λ j. Multiplier (ops m) (places m ps) (length ps - 1) j (length ps - suc j) (elem m w)) (let k : i + 0 ≡ i = omega arith in k) (h 0 (omega arith))),
+    multipliers-listed ps (suc i) ws (omega arith)
+        (λ j k. subst (λ n. Multiplier (ops m) (places m ps) (length ps - 1) n (length ps - suc n) (elem m (getD ws j 0))) (let z : i + suc j ≡ suc i + j = omega arith in z) (h (suc j) (omega arith))),
   )
 
   -- All places.
-  pub weights-end : (ps : List Point) {i : ℕ} {out : List ℕ} → length ps ≤ i → i ≤ length ps → Weighing m ps i out → Weighted m ps out
-  weights-end ps {i} {out} h k s = record {
+  pub multipliers-end : (ps : List Point) {i : ℕ} {out : List ℕ} → length ps ≤ i → i ≤ length ps → Gathering m ps i out → Multipliers-of m ps out
+  multipliers-end ps {i} {out} h k s = record {
     size = s .size ∙ (let e : i ≡ length ps = omega arith in e);
-    weights = weights-listed ps 0 out (omega (arith, s .size))
-        (λ j z. subst (λ n. Weight (ops m) (places m ps) (length ps - 1) n (length ps - suc n) (elem m (getD out j 0))) (let e : j ≡ 0 + j = omega arith in e) (s .each j (omega (arith, s .size))));
+    multipliers = multipliers-listed ps 0 out (omega (arith, s .size))
+        (λ j z. subst (λ n. Multiplier (ops m) (places m ps) (length ps - 1) n (length ps - suc n) (elem m (getD out j 0))) (let e : j ≡ 0 + j = omega arith in e) (s .each j (omega (arith, s .size))));
   }
 
   -- One symbol more of a multiple.
@@ -128,14 +128,14 @@ module _ {m : Meaning} (l : Laws m) where
   pub sharp-places : (ps : List Point) (blocks : List (Block (Elem m))) → points blocks ≡ places m ps → Lawful (ops m) blocks → Sharp (ops m) (places m ps)
   sharp-places ps blocks e law = subst (Sharp (ops m)) e (Sharpness.sharp-lawful laws blocks law)
 
-  -- Where the first weight has no inverse, the points are not lawful.
-  pub first-missing : (ps : List Point) {ws : List ℕ} {first : ℕ} → 1 ≤ length ps → Weighted m ps ws → first ≡ getD ws 0 0 → None ≡ inverted m first → Unlawful m ps
+  -- Where the first multiplier has no inverse, the points are not lawful.
+  pub first-missing : (ps : List Point) {ws : List ℕ} {first : ℕ} → 1 ≤ length ps → Multipliers-of m ps ws → first ≡ getD ws 0 0 → None ≡ inverted m first → Unlawful m ps
   first-missing ps {ws} {first} some w ef z blocks e law =
-      Locators.first-weight laws (places m ps) (length ps - 1) (elems m ws) (sharp-places ps blocks e law) (length-places ps ∙ (let k : length ps ≡ suc (length ps - 1) = omega arith in k))
-      (length-map ws (elem m) ∙ w .size ∙ sym (length-places ps)) (w .weights) (sym (Carrier.elem-at m ws 0) ∙ ap (elem m) (sym ef) ∙ inverse-none l first z)
+      Locators.first-multiplier laws (places m ps) (length ps - 1) (elems m ws) (sharp-places ps blocks e law) (length-places ps ∙ (let k : length ps ≡ suc (length ps - 1) = omega arith in k))
+      (length-map ws (elem m) ∙ w .size ∙ sym (length-places ps)) (w .multipliers) (sym (Carrier.elem-at m ws 0) ∙ ap (elem m) (sym ef) ∙ inverse-none l first z)
 
   -- What `dual_locators` answers.
-  pub located : (ps : List Point) {ws row ds : List ℕ} {first c : ℕ} → 1 ≤ length ps → length ps ≤ 24 → Weighted m ps ws → first ≡ getD ws 0 0 → Some c ≡ inverted m first → row ≡ ws
+  pub located : (ps : List Point) {ws row ds : List ℕ} {first c : ℕ} → 1 ≤ length ps → length ps ≤ 24 → Multipliers-of m ps ws → first ≡ getD ws 0 0 → Some c ≡ inverted m first → row ≡ ws
       → ds ≡ take 24 (codes (scale (ops m) (elem m c) (elems m row))) → Located m ps ds
   located ps {ws} {row} {ds} {first} {c} some few w ef ei er ed =
       let o = ops m in
@@ -151,6 +151,6 @@ module _ {m : Meaning} (l : Laws m) where
         size = ap length e ∙ length-map X (λ (x : Elem m). x .code) ∙ lx;
         duality = DualCodes.duality laws;
         dual = λ blocks be law. subst (Dual-locators o (places m ps)) (sym E)
-            (Locators.dual-of-weights laws (places m ps) (length ps - 1) (elems m ws) (sharp-places ps blocks be law) (length-places ps ∙ (let k : length ps ≡ suc (length ps - 1) = omega arith in k))
-            (length-map ws (elem m) ∙ w .size ∙ sym (length-places ps)) (w .weights));
+            (Locators.dual-of-multipliers laws (places m ps) (length ps - 1) (elems m ws) (sharp-places ps blocks be law) (length-places ps ∙ (let k : length ps ≡ suc (length ps - 1) = omega arith in k))
+            (length-map ws (elem m) ∙ w .size ∙ sym (length-places ps)) (w .multipliers));
       }
