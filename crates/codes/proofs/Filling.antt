@@ -1,10 +1,11 @@
 -- Lists of fixed capacity: what `push` does to the cells, and lists that are filled from the front.
 use mathlib.Core.Path.{_≡_, sym, ap, _∙_}
-use mathlib.Core.List.{List, [], _∷_, _++_}
+use mathlib.Core.List.{List, [], _∷_, _++_, append-assoc, append-nil}
 use Prim.Native.Nat.{ℕ, _+_, _<_, _≤_}
 use native.Mathlib.Omega.{arith}
 use lib.ListN.{length, getD, set, take}
 use Rattle.std.proofs.shelf.Lists.{take-more, take-more-set, take-all, take-at, length-take, length-push}
+use Rattle.skew.proofs.Filling.{take-cut}
 
 module _ {A : Type 0} (cap : ℕ) where
   -- One more behind those in use.
@@ -24,3 +25,13 @@ module _ {A : Type 0} (cap : ℕ) where
   copied f d {out} {out′} {i} {x} few h e ex eo =
       eo ∙ ap (λ z. take cap (z ++ x ∷ [])) e ∙ ap (λ y. take cap (take i f ++ y ∷ [])) ex ∙ ap (take cap) (sym (take-more f i d h))
       ∙ take-all cap (take (i + 1) f) (omega (arith, length-take (i + 1) f))
+
+  -- Behind what stands there already: nothing yet, and one of the new ones more.
+  pub appended-none : (before : List A) → length before ≤ cap → before ≡ take cap (before ++ [])
+  appended-none before few = sym (ap (take cap) (append-nil before) ∙ take-all cap before few)
+
+  pub appended-more : (before new : List A) (d : A) {out out′ : List A} {i : ℕ} {x : A} → i < length new → out ≡ take cap (before ++ take i new) → x ≡ getD new i d → out′ ≡ take cap (out ++ x ∷ [])
+      → out′ ≡ take cap (before ++ take (i + 1) new)
+  appended-more before new d {out} {out′} {i} {x} h e ex eo =
+      eo ∙ ap (λ z. take cap (z ++ x ∷ [])) e ∙ take-cut cap (before ++ take i new) (x ∷ []) ∙ ap (take cap) (append-assoc before (take i new) (x ∷ []))
+      ∙ ap (λ y. take cap (before ++ (take i new ++ y ∷ []))) ex ∙ ap (λ z. take cap (before ++ z)) (sym (take-more new i d h))

@@ -136,7 +136,7 @@ cut-length : (ls xs : List ℕ) → length (cut ls xs) ≡ length ls
 cut-length [] xs = refl
 cut-length (n ∷ ls) xs = ap suc (cut-length ls (drop n xs))
 
-route-size : (ls ps xs : List ℕ) → length ps ≡ length ls → total ls ≤ length xs → length (route ls ps xs) ≡ total ls
+pub route-size : (ls ps xs : List ℕ) → length ps ≡ length ls → total ls ≤ length xs → length (route ls ps xs) ≡ total ls
 route-size [] ps xs e h = refl
 route-size (n ∷ ls) [] xs e h = absurd (omega arith)
 route-size (n ∷ ls) (a ∷ ps) xs e h =

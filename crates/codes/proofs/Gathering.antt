@@ -8,32 +8,24 @@ use Prim.Native.Nat.{ℕ, suc, _+_, _-_, _<_, _≤_}
 use native.Mathlib.Omega.{arith}
 use borrow.Author.Count.{below-more}
 use lib.ListN.{length, getD, take, drop, length-map, length-append}
-use Rattle.std.proofs.shelf.Lists.{drop-more, drop-all, drop-drop, take-all, take-more, take-append-drop, length-take, getD-map}
+use Rattle.std.proofs.shelf.Lists.{drop-more, drop-all, drop-drop, take-all, take-append-drop, length-take}
 use Rattle.fields.specs.Meaning.{Meaning}
 use Rattle.fields.specs.Elements.{elems, ops}
 use Rattle.skew.specs.declared.points.Point.{Point}
 use Rattle.skew.specs.Roots.{Independent}
-use Rattle.skew.proofs.Filling.{take-cut}
 use Rattle.codes.specs.declared.faults.Fault.{Fault}
 use Rattle.codes.specs.declared.faults.Reason.the-variants.{Dependent}
 use Rattle.codes.specs.Ranks.{total, cut, Depends}
 use Rattle.codes.specs.Fitness.{at-code, pointed, route, Gathered, Breaks}
 
--- One point more behind those that fit.
-pub extend-more : {points points′ : List Point} (before new : List Point) {i : ℕ} {p : Point} (d : Point) → i < length new → points ≡ take 24 (before ++ take i new) → p ≡ getD new i d
-    → points′ ≡ take 24 (points ++ p ∷ []) → points′ ≡ take 24 (before ++ take (i + 1) new)
-extend-more before new {i} {p} d h e ep eo =
-    eo ∙ ap (λ z. take 24 (z ++ p ∷ [])) e ∙ take-cut 24 (before ++ take i new) (p ∷ []) ∙ ap (take 24) (append-assoc before (take i new) (p ∷ []))
-    ∙ ap (λ q. take 24 (before ++ (take i new ++ q ∷ []))) ep ∙ ap (λ z. take 24 (before ++ z)) (sym (take-more new i d h))
-
 -- The lengths of the first blocks and of the others make the whole.
-total-split : (i : ℕ) (ls : List ℕ) → total (take i ls) + total (drop i ls) ≡ total ls
+pub total-split : (i : ℕ) (ls : List ℕ) → total (take i ls) + total (drop i ls) ≡ total ls
 total-split ℕ.zero ls = omega arith
 total-split (suc i) [] = refl
 total-split (suc i) (n ∷ ls) = omega (arith, total-split i ls)
 
 -- And one block more.
-total-more : (i : ℕ) (ls : List ℕ) → i < length ls → total (take i ls) + getD ls i 0 ≡ total (take (i + 1) ls)
+pub total-more : (i : ℕ) (ls : List ℕ) → i < length ls → total (take i ls) + getD ls i 0 ≡ total (take (i + 1) ls)
 total-more i ls h = omega (arith, total-split i ls, total-split (i + 1) ls, ap total (drop-more ls i 0 h))
 
 -- Where block i stands.

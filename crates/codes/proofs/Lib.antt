@@ -25,3 +25,4 @@ pub mod Holding
 pub mod Checking
 pub mod Multipliers
 pub mod DualCode
+pub mod SheetWriting

@@ -13,3 +13,4 @@ pub mod Fitness
 pub mod Duals
 pub mod DualAnswers
 pub mod Dualizing
+pub mod Writing

@@ -1,23 +1,23 @@
 use mathlib.Core.Path.{_≡_, sym, ap, _∙_}
-use mathlib.Core.List.{_++_, map, append-nil}
+use mathlib.Core.List.{_++_, map}
 use native.Mathlib.Omega.{arith}
 use lib.ListN.{length, take, length-map}
 use Rattle.std.proofs.shelf.Lists.{take-all, length-take, getD-map}
 use Rattle.codes.specs.Holdings.{stops}
 use Rattle.codes.specs.Fitness.{pointed}
-use Rattle.codes.proofs.Gathering.{extend-more}
+use Rattle.codes.proofs.Filling.{appended-none, appended-more}
 use Rattle.codes.proofs.making.extend.Needs as need
 
 pub loop-b-holds : need.loop-b-holds
 loop-b-holds c =
     let q = c .args .course .now in
-    sym (ap (take 24) (append-nil (stops q)) ∙ take-all 24 (stops q) (omega (arith, length-take (q .len) (q .cells), q .fits)))
+    appended-none 24 (stops q) (omega (arith, length-take (q .len) (q .cells), q .fits))
 
 pub loop-b-again : need.loop-b-again
 loop-b-again c =
     let a = c .args .parameter in
     let xs = c .args .locators .now in
-    extend-more (stops (c .args .course .now)) (map (pointed a) xs) (pointed a 0) (omega (arith, length-map xs (pointed a), c .loop-b-test .taken)) (c .loop-b .inv)
+    appended-more 24 (stops (c .args .course .now)) (map (pointed a) xs) (pointed a 0) (omega (arith, length-map xs (pointed a), c .loop-b-test .taken)) (c .loop-b .inv)
     (sym (getD-map (pointed a) xs (c .loop-b .b-index) 0 (pointed a 0) (c .loop-b-test .taken))) (c .push .ensures)
 
 pub returns : need.returns
