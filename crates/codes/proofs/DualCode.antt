@@ -8,7 +8,7 @@ use lib.ListN.{length, getD, take, drop, length-map, length-append}
 use Rattle.std.proofs.shelf.Lists.{take-all, take-more, map-append, length-take, getD-map, length-drop}
 use Rattle.fields.specs.Field.{Ops, mirror, comb}
 use Rattle.fields.specs.Meaning.{Meaning, Laws, clip}
-use Rattle.fields.specs.Mirror.{mirrored}
+use Rattle.fields.specs.Mirror.{mirrored, across}
 use Rattle.fields.specs.Elements.{Elem, elem, elems, ops}
 use Rattle.fields.proofs.Carrier
 use Rattle.skew.specs.declared.points.Point.{Point}
@@ -21,7 +21,13 @@ use Rattle.codes.specs.Holdings.{held, stops}
 use Rattle.codes.specs.Codes.{pts, block-size, Lawful-code}
 use Rattle.codes.specs.Duals.{Codeword, dual-points, dual-blocks, Dual-locators, Duality}
 use Rattle.codes.specs.DualAnswers.{Located}
-use Rattle.codes.specs.Dualizing.{Dualized, Undual}
+use Rattle.codes.specs.Ranks.{total}
+use Rattle.codes.specs.Sheets.{Text, spelled}
+use Rattle.codes.specs.Fitness.{pointed, route}
+use Rattle.codes.specs.Writing.{Described}
+use Rattle.codes.specs.Dualizing.{turned-points, dual-text, Dualized, Dual-sheet, Undual}
+use Rattle.codes.proofs.Filling.{copied}
+use Rattle.codes.proofs.SheetWriting.{many, size, count}
 
 module _ {F : Type 0} (o : Ops F) where
   -- As many dual points as points, and what stands at each place.
@@ -62,6 +68,52 @@ module _ (m : Meaning) (ps : List Point) (ds : List ℕ) (same : length ds ≡ l
   pub turned-ends : (out : List Point) {i : ℕ} → length ps ≤ i → places m out ≡ take i whole → places m out ≡ whole
   turned-ends out {i} h e = e ∙ take-all i whole (omega (arith, dual-length (ops m) (places m ps) (elems m ds) same-elems, length-map ps (place m)))
 
+turned-length : (m : Meaning) (ps : List Point) (ds : List ℕ) → length ds ≡ length ps → length (turned-points m ps ds) ≡ length ps
+turned-length m [] ds e = refl
+turned-length m (p ∷ ps) [] e = absurd (omega arith)
+turned-length m (p ∷ ps) (d ∷ ds) e = ap suc (turned-length m ps ds (omega arith))
+
+turned-at : (m : Meaning) (ps : List Point) (ds : List ℕ) (p : Point) (i : ℕ) → length ds ≡ length ps → i < length ps
+    → getD (turned-points m ps ds) i p ≡ record { parameter = m .untwist (clip m (getD ps i p .parameter)); locator = getD ds i 0 }
+turned-at m [] ds p i e h = absurd (omega arith)
+turned-at m (q ∷ ps) [] p i e h = absurd (omega arith)
+turned-at m (q ∷ ps) (d ∷ ds) p ℕ.zero e h = refl
+turned-at m (q ∷ ps) (d ∷ ds) p (suc i) e h = turned-at m ps ds p i (omega arith) (omega arith)
+
+-- One of them more, and all.
+pub exact-more : (m : Meaning) (ps : List Point) (ds : List ℕ) {out out′ : List Point} {i a b : ℕ} (p : Point) → length ds ≡ length ps → length ps ≤ 24 → i < length ps → out ≡ take i (turned-points m ps ds)
+    → a ≡ m .untwist (clip m (getD ps i p .parameter)) → b ≡ getD ds i 0 → out′ ≡ take 24 (out ++ record { parameter = a; locator = b } ∷ []) → out′ ≡ take (i + 1) (turned-points m ps ds)
+exact-more m ps ds {i = i} p same few h e ea eb eo =
+    copied 24 (turned-points m ps ds) p (omega (arith, turned-length m ps ds same)) (omega (arith, turned-length m ps ds same)) e
+    (ap₂ (λ x y. record { parameter = x; locator = y }) ea eb ∙ sym (turned-at m ps ds p i same h)) eo
+
+pub exact-all : (m : Meaning) (ps : List Point) (ds : List ℕ) {out : List Point} {i : ℕ} → length ds ≡ length ps → length ps ≤ i → out ≡ take i (turned-points m ps ds) → out ≡ turned-points m ps ds
+exact-all m ps ds {i = i} same h e = e ∙ take-all i (turned-points m ps ds) (omega (arith, turned-length m ps ds same))
+
+-- A route turned is the route of the untwisted parameters with the dual locators.
+turned-some : (m : Meaning) (a : ℕ) (xs ds : List ℕ) → length ds ≡ length xs → turned-points m (map (pointed a) xs) ds ≡ map (pointed (m .untwist (clip m a))) ds
+turned-some m a [] [] e = refl
+turned-some m a [] (d ∷ ds) e = absurd (omega arith)
+turned-some m a (x ∷ xs) [] e = absurd (omega arith)
+turned-some m a (x ∷ xs) (d ∷ ds) e = ap (λ z. pointed (m .untwist (clip m a)) d ∷ z) (turned-some m a xs ds (omega arith))
+
+turned-append : (m : Meaning) (ps qs : List Point) (ds : List ℕ) → length ps ≤ length ds
+    → turned-points m (ps ++ qs) ds ≡ turned-points m ps (take (length ps) ds) ++ turned-points m qs (drop (length ps) ds)
+turned-append m [] qs ds h = refl
+turned-append m (p ∷ ps) qs [] h = absurd (omega arith)
+turned-append m (p ∷ ps) qs (d ∷ ds) h = ap (λ z. record { parameter = m .untwist (clip m (p .parameter)); locator = d } ∷ z) (turned-append m ps qs ds (omega arith))
+
+turned-route : (m : Meaning) (ls ps xs ds : List ℕ) → length ps ≡ length ls → total ls ≡ length xs → length ds ≡ length xs
+    → turned-points m (route ls ps xs) ds ≡ route ls (map (λ a. m .untwist (clip m a)) ps) ds
+turned-route m [] ps xs ds e s z = refl
+turned-route m (n ∷ ls) [] xs ds e s z = refl
+turned-route m (n ∷ ls) (a ∷ ps) xs ds e s z =
+    let k : length (map (pointed a) (take n xs)) ≡ n = length-map (take n xs) (pointed a) ∙ length-take n xs ∙ omega arith in
+    turned-append m (map (pointed a) (take n xs)) (route ls ps (drop n xs)) ds (omega arith)
+    ∙ ap₂ _++_ (ap (λ i. turned-points m (map (pointed a) (take n xs)) (take i ds)) k ∙ turned-some m a (take n xs) (take n ds) (length-take n ds ∙ sym (length-take n xs ∙ omega arith)))
+    (ap (λ i. turned-points m (route ls ps (drop n xs)) (drop i ds)) k
+    ∙ turned-route m ls ps (drop n xs) (drop n ds) (omega arith) (sym (length-drop n xs ∙ omega arith)) (length-drop n ds ∙ sym (length-drop n xs ∙ omega arith)))
+
 -- The dual blocks have the lengths of the blocks.
 dual-sizes : {F : Type 0} (o : Ops F) (blocks : List (Block F)) (al : List F) → length al ≡ roots.places blocks → map block-size (dual-blocks o blocks al) ≡ map block-size blocks
 dual-sizes o [] al e = refl
@@ -76,8 +128,10 @@ points-length (block a bs ∷ rest) = length-append (map (λ b. (a, b)) bs) (poi
 module _ {m : Meaning} (l : Laws m) (c d : Code) (ds : List ℕ) where
   -- The dual code, from its points.
   pub dualized : c .dimension < length (stops (c .course)) → d .dimension ≡ length (stops (c .course)) - c .dimension → held (d .lengths) ≡ held (c .lengths)
-      → Located m (stops (c .course)) ds → places m (stops (d .course)) ≡ dual-points (ops m) (pts m c) (elems m ds) → Dualized m c d
-  dualized small ed el loc ep = record {
+      → Located m (stops (c .course)) ds → places m (stops (d .course)) ≡ dual-points (ops m) (pts m c) (elems m ds) → stops (d .course) ≡ turned-points m (stops (c .course)) ds → Dualized m c d
+  dualized small ed el loc ep ex = record {
+    some = small;
+    exact = (ds, loc .proper, loc .size, ex, right);
     dimension = omega arith;
     lengths = el;
     locators = λ law. (elems m ds, right law, ep);
@@ -106,6 +160,35 @@ module _ {m : Meaning} (l : Laws m) (c d : Code) (ds : List ℕ) where
 
       there : (law : Lawful-code m c) → Dual-locators (ops m) (points (law .blocks)) (elems m ds)
       there law = subst (λ ts. Dual-locators (ops m) ts (elems m ds)) (sym (law .grouped)) (loc .dual (law .blocks) (law .grouped) (law .lawful))
+
+-- The sheet of the dual code.
+pub dual-sheet : (m : Meaning) (c d : Code) {number : ℕ} {bs : List ℕ} → Dualized m c d → number ≡ across (m .number) → ((t : Text) → Described d t → bs ≡ spelled number t) → c .dimension < length (stops (c .course))
+    → Dual-sheet m c bs
+dual-sheet m c d {number} {bs} z en w small = record {
+  duals = z .exact .0;
+  locators = z .exact .4;
+  proper = z .exact .1;
+  sheet = λ t q.
+      let ds = z .exact .0 in
+      let n : length (stops (c .course)) ≡ length (t .locators) = count c t q ∙ size c t q in
+      let k : d .dimension ≡ length (t .locators) - t .dimension = omega (arith, z .dimension, q .dimension) in
+      w (dual-text m t (length (t .locators) - t .dimension) ds) (record {
+        whole = record {
+          opens = record {
+            blocks = q .whole .opens .blocks;
+            lengths = q .whole .opens .lengths;
+            least = omega (arith, q .dimension);
+            most = omega (arith, q .whole .as-many-locators);
+          };
+          as-many-parameters = length-map (t .parameters) (λ a. m .untwist (clip m a)) ∙ q .whole .as-many-parameters;
+          as-many-locators = z .exact .2 ∙ n ∙ q .whole .as-many-locators;
+        };
+        dimension = k;
+        lengths = z .lengths ∙ q .lengths;
+        points = z .exact .3 ∙ ap (λ ps. turned-points m ps ds) (q .points) ∙ turned-route m (t .blocks) (t .parameters) (t .locators) ds (many c t q) (size c t q) (z .exact .2 ∙ n);
+      })
+      ∙ ap (λ i. spelled i (dual-text m t (length (t .locators) - t .dimension) ds)) en;
+}
 
 -- Where there are no dual locators the code is not lawful.
 pub undual : (m : Meaning) (c : Code) → length (stops (c .course)) ≤ 24 → (length (stops (c .course)) ≡ 0) ⊎ ((24 < length (stops (c .course))) ⊎ Unlawful m (stops (c .course))) → Undual m c

@@ -24,5 +24,5 @@ pub mod DualCodes
 pub mod Holding
 pub mod Checking
 pub mod Multipliers
-pub mod DualCode
 pub mod SheetWriting
+pub mod DualCode

@@ -34,11 +34,11 @@ route-parameter (n ∷ ls) [] xs d i e s a h = absurd (omega arith)
 route-parameter (n ∷ ls) (p ∷ ps) xs d ℕ.zero e s a h =
     let l : length (take n xs) ≡ n = length-take n xs ∙ omega arith in
     ap (λ q. q .parameter) (getD-append-left (map (pointed p) (take n xs)) (route ls ps (drop n xs)) d 0 (omega (arith, length-map (take n xs) (pointed p), a .0 .0))
-      ∙ getD-map (pointed p) (take n xs) 0 0 d (omega (arith, a .0 .0)))
+    ∙ getD-map (pointed p) (take n xs) 0 0 d (omega (arith, a .0 .0)))
 route-parameter (n ∷ ls) (p ∷ ps) xs d (suc i) e s a h =
     let l : length (map (pointed p) (take n xs)) ≡ n = length-map (take n xs) (pointed p) ∙ length-take n xs ∙ omega arith in
     ap (λ q. q .parameter) (ap (λ k. getD (map (pointed p) (take n xs) ++ route ls ps (drop n xs)) (k + total (take i ls)) d) (sym l)
-      ∙ getD-append-add (map (pointed p) (take n xs)) (route ls ps (drop n xs)) (total (take i ls)) d)
+    ∙ getD-append-add (map (pointed p) (take n xs)) (route ls ps (drop n xs)) (total (take i ls)) d)
     ∙ route-parameter ls ps (drop n xs) d i (omega arith) (omega (arith, length-drop n xs)) (a .1) (omega arith)
 
 -- The locators of a route.
@@ -55,17 +55,17 @@ route-locators (n ∷ ls) (p ∷ ps) xs e s =
     plain (y ∷ ys) = ap (λ z. y ∷ z) (plain ys)
 
 module _ (c : Code) (t : Text) (d : Described c t) where
-  many : length (t .parameters) ≡ length (t .blocks)
+  pub many : length (t .parameters) ≡ length (t .blocks)
   many = d .whole .as-many-parameters
 
-  size : total (t .blocks) ≡ length (t .locators)
+  pub size : total (t .blocks) ≡ length (t .locators)
   size = sym (d .whole .as-many-locators ∙ sum-total (t .blocks))
 
   few : total (t .blocks) ≤ 24
   few = omega (arith, sum-total (t .blocks), d .whole .opens .lengths .total)
 
   -- There are as many points as the lengths say.
-  count : length (stops (c .course)) ≡ total (t .blocks)
+  pub count : length (stops (c .course)) ≡ total (t .blocks)
   count = ap length (d .points) ∙ route-size (t .blocks) (t .parameters) (t .locators) many (omega (arith, size))
 
   pub locators-back : take 24 (map (λ (p : Point). p .locator) (stops (c .course))) ≡ t .locators
@@ -102,9 +102,9 @@ module _ (c : Code) where
     first = λ t d.
         let k : i < length (t .blocks) = omega (arith, ap length (d .lengths)) in
         copied 24 (t .parameters) 0 (omega (arith, many c t d, d .whole .opens .blocks .1)) (omega (arith, many c t d)) (w .first t d)
-          (ex (omega (arith, w .begin t d, begins c t d i k)) ∙ ap (λ n. getD (stops (c .course)) n (record { parameter = 0; locator = 0 }) .parameter) (w .begin t d)
-            ∙ parameter-there c t d (record { parameter = 0; locator = 0 }) i k)
-          eo;
+        (ex (omega (arith, w .begin t d, begins c t d i k)) ∙ ap (λ n. getD (stops (c .course)) n (record { parameter = 0; locator = 0 }) .parameter) (w .begin t d)
+        ∙ parameter-there c t d (record { parameter = 0; locator = 0 }) i k)
+        eo;
     begin = λ t d.
         let k : i < length (t .blocks) = omega (arith, ap length (d .lengths)) in
         let n : getD (held (c .lengths)) i 0 ≡ getD (t .blocks) i 0 = ap (λ ls. getD ls i 0) (d .lengths) in
@@ -142,8 +142,15 @@ sheet-spelled c number k l n ls ps xs e0 e1 e2 e3 e4 e5 e6 el ep ex ek eb en t d
     let bb : l ≡ length (t .blocks) = eb (omega (arith, ap length (d .lengths), d .whole .opens .blocks .1)) ∙ ap length (d .lengths) in
     let nn : n ≡ sum (t .blocks) = en (omega (arith, ap length xl, size c t d, few c t d)) ∙ ap length xl ∙ d .whole .as-many-locators in
     let short : length (spelled number t) ≤ 64 =
-        omega (arith, length-append (number ∷ t .dimension ∷ length (t .blocks) ∷ t .blocks ++ length (t .blocks) ∷ t .parameters) (sum (t .blocks) ∷ t .locators),
-          length-append (t .blocks) (length (t .blocks) ∷ t .parameters), many c t d, size c t d, few c t d, d .whole .opens .blocks .1) in
+    omega (
+      arith,
+      length-append (number ∷ t .dimension ∷ length (t .blocks) ∷ t .blocks ++ length (t .blocks) ∷ t .parameters) (sum (t .blocks) ∷ t .locators),
+      length-append (t .blocks) (length (t .blocks) ∷ t .parameters),
+      many c t d,
+      size c t d,
+      few c t d,
+      d .whole .opens .blocks .1,
+    ) in
     joined (number ∷ k ∷ l ∷ []) ls (l ∷ []) ps (n ∷ []) xs e0 e1 e2 e3 e4 e5 e6
     ∙ ap (take 64) (append-assoc (((number ∷ k ∷ l ∷ ls) ++ l ∷ []) ++ ps) (n ∷ []) xs ∙ ap (λ z. z ++ n ∷ xs) (append-assoc (number ∷ k ∷ l ∷ ls) (l ∷ []) ps) ∙ parts kk bb ll pl nn xl)
     ∙ take-all 64 (spelled number t) short

@@ -12,5 +12,5 @@ pub mod Codes
 pub mod Fitness
 pub mod Duals
 pub mod DualAnswers
-pub mod Dualizing
 pub mod Writing
+pub mod Dualizing

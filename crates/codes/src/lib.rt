@@ -22,6 +22,7 @@ mod writing;
 pub use conjugacy::conjugate;
 pub use distance::minimum_distance;
 pub use dualizing::dual;
+pub use dualizing::dual_sheet;
 pub use duals::dual_locators;
 pub use duals::duals_stand;
 pub use encoding::encode;

@@ -15,7 +15,11 @@ use skew::Point;
 fn parameter_at(points: &[Point], at: usize) -> u8
     ensures { λ r. ⌜ (at < length (now (points .entry)) → r ≡ getD (now (points .entry)) at (record { parameter = 0; locator = 0 }) .parameter) ⌝ }
 {
-    if at < points.len() { points[at].parameter } else { 0 }
+    if at < points.len() {
+        points[at].parameter
+    } else {
+        0
+    }
 }
 
 // The parameter of each block: that of its first point.

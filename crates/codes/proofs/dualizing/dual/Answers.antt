@@ -9,6 +9,7 @@ use Rattle.skew.specs.Annihilators.{places}
 use Rattle.codes.specs.Holdings.{held, stops}
 use Rattle.codes.specs.Duals.{dual-points}
 use Rattle.codes.specs.DualAnswers.{Located}
+use Rattle.codes.specs.Dualizing.{turned-points}
 use Rattle.codes.proofs.DualCode.{dualized, undual}
 use Rattle.codes.proofs.dualizing.dual.Needs as need
 
@@ -31,4 +32,5 @@ returns g c =
     let loc = subst (λ ps. Located m ps (held (c .in-Continue-locators .locators))) e (c .in-Continue-locators .ensures tt) in
     dualized (g .K·Kind·met .lawful (c .args .kind .now)) (c .args .code .now) _ (held (c .in-Continue-locators .locators)) (omega (arith, ap length e, c .if-code-points .left))
     (ap (λ ps. length ps - c .args .code .now .dimension) e) refl loc
-    (c .turned-course .ensures ∙ ap (λ ps. dual-points (ops m) (places m ps) (elems m (held (c .in-Continue-locators .locators)))) e)
+    (c .turned-course .ensures .points ∙ ap (λ ps. dual-points (ops m) (places m ps) (elems m (held (c .in-Continue-locators .locators)))) e)
+    (c .turned-course .ensures .exact ∙ ap (λ ps. turned-points m ps (held (c .in-Continue-locators .locators))) e)
