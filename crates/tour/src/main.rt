@@ -3,6 +3,7 @@
 use codes::Code;
 use codes::Symbols;
 use codes::dual_locators;
+use codes::dual_sheet;
 use codes::encode;
 use codes::message;
 use codes::set_up;
@@ -85,6 +86,9 @@ fn travel<K: Kind>(rt: &impl Print, kind: &K, code: &Code) -> io::Result<()> {
         return println!(rt, "no dual locators");
     };
     line(rt, "dual locators", duals.as_slice())?;
+    if let Some(sheet) = dual_sheet(kind, code) {
+        line(rt, "dual sheet", sheet.as_slice())?;
+    }
     inspect(rt, kind, code, &duals, word.as_slice())?;
     inspect(rt, kind, code, &duals, damaged(kind, &word).as_slice())
 }
