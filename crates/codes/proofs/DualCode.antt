@@ -68,7 +68,7 @@ module _ (m : Meaning) (ps : List Point) (ds : List ℕ) (same : length ds ≡ l
   pub turned-ends : (out : List Point) {i : ℕ} → length ps ≤ i → places m out ≡ take i whole → places m out ≡ whole
   turned-ends out {i} h e = e ∙ take-all i whole (omega (arith, dual-length (ops m) (places m ps) (elems m ds) same-elems, length-map ps (place m)))
 
-turned-length : (m : Meaning) (ps : List Point) (ds : List ℕ) → length ds ≡ length ps → length (turned-points m ps ds) ≡ length ps
+pub turned-length : (m : Meaning) (ps : List Point) (ds : List ℕ) → length ds ≡ length ps → length (turned-points m ps ds) ≡ length ps
 turned-length m [] ds e = refl
 turned-length m (p ∷ ps) [] e = absurd (omega arith)
 turned-length m (p ∷ ps) (d ∷ ds) e = ap suc (turned-length m ps ds (omega arith))

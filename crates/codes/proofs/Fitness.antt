@@ -7,7 +7,7 @@ use native.Mathlib.Omega.{arith}
 use lib.ListN.{length, getD, take, drop, length-map, length-append}
 use Rattle.std.proofs.shelf.Tests.{cases-lt}
 use Rattle.std.specs.Iters.{folded}
-use Rattle.std.specs.shelf.Lists.{sum}
+use Rattle.std.specs.shelf.Lists.{sum, All as Every}
 use Rattle.std.proofs.shelf.Lists.{map-append, length-take, length-drop}
 use Rattle.fields.specs.Lists.{All}
 use Rattle.fields.specs.Meaning.{Meaning, Laws}
@@ -21,11 +21,13 @@ use Rattle.codes.specs.declared.faults.Reason.the-variants.{NoCode}
 use Rattle.codes.specs.declared.faults.Reason.the-variants as reason
 use Rattle.codes.specs.declared.sections.Section.{Section}
 use Rattle.codes.specs.declared.sections.Section.the-variants.{Lengths, Parameters, Locators}
+use Rattle.codes.specs.declared.route.Course.{Course}
 use Rattle.codes.specs.declared.shape.Code.{Code}
+use Rattle.codes.specs.declared.symbols.Symbols.{Symbols}
 use Rattle.codes.specs.declared.sheets.Sheet.{Sheet}
 use Rattle.codes.specs.Holdings.{held, stops}
 use Rattle.codes.specs.Sections.{part-of, offset-of, Part, view, lengths, parameters, locators}
-use Rattle.codes.specs.Sheets.{Text, Whole}
+use Rattle.codes.specs.Sheets.{Text, Length, Whole}
 use Rattle.codes.specs.Readings.{text-of, Laid}
 use Rattle.codes.specs.Ranks.{total, cut}
 use Rattle.codes.specs.Codes.{block-size, Lawful-code}
@@ -164,3 +166,35 @@ made {m} l s c w {ls} {ps} {xs} el ep ex a apart g ei ed =
         most = omega (arith, ed, ap length (g .all), route-size ls ps xs many (omega arith));
       };
     }
+
+-- A course is as long as it says.
+pub course-length : (q : Course) → length (stops q) ≡ q .len
+course-length q = length-take (q .len) (q .cells) ∙ omega (arith, q .fits, q .whole)
+
+-- Each length keeps its limits.
+length-at : (ls : List ℕ) → Every Length ls → (i : ℕ) → i < length ls → (1 ≤ getD ls i 0) × (getD ls i 0 ≤ 8)
+length-at [] a i h = absurd (omega arith)
+length-at (n ∷ ls) a ℕ.zero h = a .0
+length-at (n ∷ ls) a (suc i) h = length-at ls (a .1) i (omega arith)
+
+-- The code of a sheet keeps the limits of a sheet.
+pub within : {m : Meaning} (s : Sheet) (q : Course) (h : Symbols) → Whole (text-of s .dimension) (text-of s .blocks) (text-of s .parameters) (text-of s .locators)
+    → {ls ps xs : List ℕ} → ls ≡ part-of (s .lengths) → ps ≡ part-of (s .parameters) → xs ≡ part-of (s .locators) → Gathered m ls ps xs (stops q) → held h ≡ ls
+    → (1 ≤ s .dimension) × ((s .dimension ≤ q .len) × ((length (held h) ≤ 12) × (((i : ℕ) → i < length (held h) → (1 ≤ getD (held h) i 0) × (getD (held h) i 0 ≤ 8)) × ((total (held h) ≡ q .len) × Unit {0}))))
+within s q h w {ls} {ps} {xs} el ep ex g eh =
+    let hl : held h ≡ part-of (s .lengths) = eh ∙ el in
+    let many : length ps ≡ length ls = ap length ep ∙ w .as-many-parameters ∙ sym (ap length el) in
+    let size : length xs ≡ total ls = ap length ex ∙ w .as-many-locators ∙ sum-total (part-of (s .lengths)) ∙ sym (ap total el) in
+    let n : q .len ≡ total ls = sym (course-length q) ∙ ap length (g .all) ∙ route-size ls ps xs many (omega arith) in (
+      w .opens .least,
+      (
+        omega (arith, w .opens .most, sum-total (part-of (s .lengths)), ap total el),
+        (
+          omega (arith, ap length hl, w .opens .blocks .1),
+          (
+            (λ i k. let r = length-at (part-of (s .lengths)) (w .opens .lengths .each) i (omega (arith, ap length hl)) in subst (λ zs. (1 ≤ getD zs i 0) × (getD zs i 0 ≤ 8)) (sym hl) r),
+            (ap total eh ∙ sym n, tt),
+          ),
+        ),
+      ),
+    )

@@ -10,7 +10,8 @@ use Rattle.codes.specs.Holdings.{held, stops}
 use Rattle.codes.specs.Duals.{dual-points}
 use Rattle.codes.specs.DualAnswers.{Located}
 use Rattle.codes.specs.Dualizing.{turned-points}
-use Rattle.codes.proofs.DualCode.{dualized, undual}
+use Rattle.codes.proofs.Fitness.{course-length}
+use Rattle.codes.proofs.DualCode.{turned-length, dualized, undual}
 use Rattle.codes.proofs.dualizing.dual.Needs as need
 
 pub returns-then-code-points : need.returns-then-code-points
@@ -34,3 +35,14 @@ returns g c =
     (ap (λ ps. length ps - c .args .code .now .dimension) e) refl loc
     (c .turned-course .ensures .points ∙ ap (λ ps. dual-points (ops m) (places m ps) (elems m (held (c .in-Continue-locators .locators)))) e)
     (c .turned-course .ensures .exact ∙ ap (λ ps. turned-points m ps (held (c .in-Continue-locators .locators))) e)
+
+pub ghost-result : need.ghost-result
+ghost-result g c =
+    let m = g .K·Kind .meaning (c .args .kind .now) in
+    let code = c .args .code .now in
+    let loc = c .in-Continue-locators .ensures tt in
+    let n : c .turned-course .result .len ≡ code .course .len =
+    sym (course-length (c .turned-course .result)) ∙ ap length (c .turned-course .ensures .exact)
+    ∙ turned-length m (c .as-slice-points .result .now) (held (c .in-Continue-locators .locators)) (loc .size) ∙ ap length (c .as-slice-points .ensures) ∙ course-length (code .course) in
+    let l = ap length (c .as-slice-points .ensures) ∙ course-length (code .course) in
+    (omega (arith, c .if-code-points .left), (omega (arith, l), (code .blocks, (code .each, (code .sum ∙ sym n, tt)))))

@@ -4,7 +4,7 @@ use lib.ListN.{length}
 use Rattle.std.proofs.shelf.Results.{err-from-errBy}
 use Rattle.codes.specs.Ranks.{total}
 use Rattle.codes.specs.Sections.{part-of}
-use Rattle.codes.proofs.Fitness.{sum-total, locators-offset, unfit-parameter, unfit-locator, unfit-related, unfit-dependent, made}
+use Rattle.codes.proofs.Fitness.{sum-total, locators-offset, unfit-parameter, unfit-locator, unfit-related, unfit-dependent, made, within}
 use Rattle.codes.proofs.making.make.Needs as need
 
 pub returns-in-Some : need.returns-in-Some
@@ -43,3 +43,8 @@ pub returns : need.returns
 returns g c =
     made (g .K·Kind·met .lawful (c .args .kind .now)) (c .args .sheet) _ (c .pre .whole) (c .bytes-lengths .ensures) (c .bytes-parameters .ensures) (c .bytes-locators .ensures)
     (c .in-rest .ensures tt) (c .in-rest-first-related .ensures tt) (c .in-Continue-course .ensures tt) (c .copied .ensures) refl
+
+pub ghost-result : need.ghost-result
+ghost-result g c =
+    within (c .args .sheet) (c .in-Continue-course .course) (c .copied .result) (c .pre .whole) (c .bytes-lengths .ensures) (c .bytes-parameters .ensures) (c .bytes-locators .ensures)
+    (c .in-Continue-course .ensures tt) (c .copied .ensures)
