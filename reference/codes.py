@@ -210,6 +210,11 @@ def judging(kind, generator, blocks):
             x = kind.product(x, generator)
             locators.append(x)
         cases.append(sheet(kind.number, 1, [size], [generator], locators))
+    least, two, largest = (sheet(kind.number, blocks * size, [size] * blocks, [1] * blocks, [1] * (blocks * size))
+                           for blocks, size in ((1, 1), (2, 1), (12, 2)))
+    cases += [least, put(least, (5, 0)), put(least, (5, bad)), put(least, (7, bad)), put(least, (7, 0)),
+              two, put(two, (7, near)), put(two, (7, generator)),
+              largest, put(largest, (27, 0)), put(largest, (27, bad)), put(largest, (52, bad))]
     for data in cases:
         judged(kind, data)
     two = sheet(kind.number, 1, [1, 1], [1, generator], [1, 1])

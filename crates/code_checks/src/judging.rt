@@ -132,6 +132,39 @@ fn long<K: Kind>(rt: &LibcRuntime, kind: &K, c: u8, size: usize) -> io::Result<(
     judged(rt, kind, &draft.sheet(kind.number(), 1))
 }
 
+// Blocks of one length, with 1 for each parameter and each locator.
+fn ones(blocks: usize, size: u8) -> Draft {
+    let mut out = Draft::empty();
+    for _i in 0..blocks {
+        out.lengths.push(size);
+        out.parameters.push(1);
+        for _j in 0..size {
+            out.locators.push(1);
+        }
+    }
+    out
+}
+
+// The smallest sheets and the largest one: the first and the last places that any sheet has.
+fn ends<K: Kind>(rt: &LibcRuntime, kind: &K, c: u8) -> io::Result<()> {
+    let bad = (kind.size().clamp(0, 255) & 0xff) as u8;
+    let least = ones(1, 1).sheet(kind.number(), 1);
+    judged(rt, kind, &least)?;
+    judged(rt, kind, &least.with(5, 0))?;
+    judged(rt, kind, &least.with(5, bad))?;
+    judged(rt, kind, &least.with(7, bad))?;
+    judged(rt, kind, &least.with(7, 0))?;
+    let two = ones(2, 1).sheet(kind.number(), 2);
+    judged(rt, kind, &two)?;
+    judged(rt, kind, &two.with(7, moved(kind, c, 1)))?;
+    judged(rt, kind, &two.with(7, c))?;
+    let largest = ones(12, 2).sheet(kind.number(), 24);
+    judged(rt, kind, &largest)?;
+    judged(rt, kind, &largest.with(27, 0))?;
+    judged(rt, kind, &largest.with(27, bad))?;
+    judged(rt, kind, &largest.with(52, bad))
+}
+
 // How a sheet with each byte at one place is answered: how often with each number, 0 for a code.
 fn every<K: Kind>(rt: &LibcRuntime, kind: &K, sheet: &Bytes, place: usize) -> io::Result<()> {
     let mut counts = [0u16; 8];
@@ -179,5 +212,6 @@ pub fn judging<K: Kind>(rt: &LibcRuntime, kind: &K, plan: Plan) -> io::Result<()
     sevens(rt, kind, &base, norm(kind, plan.generator))?;
     long(rt, kind, plan.generator, kind.width().saturating_add(1))?;
     long(rt, kind, plan.generator, 8)?;
+    ends(rt, kind, plan.generator)?;
     sweeps(rt, kind, plan.generator)
 }
