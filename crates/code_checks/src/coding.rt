@@ -15,10 +15,10 @@ use codes::Symbols;
 use codes::dual_locators;
 use codes::encode;
 use codes::message;
-use codes::rank;
+use ranks::rank;
 use codes::set_up;
 use codes::syndromes;
-use codes::weight;
+use ranks::weight;
 use fields::Kind;
 use std::io;
 

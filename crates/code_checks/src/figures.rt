@@ -10,7 +10,7 @@ use codes::dual_locators;
 use codes::encode;
 use codes::set_up;
 use codes::syndromes;
-use codes::weight;
+use ranks::weight;
 use fields::Gf16;
 use fields::Gf16Kind;
 use fields::Kind;

@@ -21,8 +21,8 @@ use Rattle.codes.specs.Holdings.{held, stops}
 use Rattle.codes.specs.Codes.{pts, block-size, Lawful-code}
 use Rattle.codes.specs.Duals.{Codeword, dual-points, dual-blocks, Dual-locators, Duality}
 use Rattle.codes.specs.DualAnswers.{Located}
-use Rattle.codes.specs.Ranks.{total}
-use Rattle.codes.specs.Sheets.{Text, spelled}
+use Rattle.ranks.specs.Ranks.{total}
+use Rattle.sheets.specs.Sheets.{Text, spelled}
 use Rattle.codes.specs.Fitness.{pointed, route}
 use Rattle.codes.specs.Writing.{Described}
 use Rattle.codes.specs.Dualizing.{turned-points, dual-text, Dualized, Dual-sheet, Undual}

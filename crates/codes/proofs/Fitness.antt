@@ -16,20 +16,20 @@ use Rattle.fields.proofs.Carrier
 use Rattle.skew.specs.declared.points.Point.{Point}
 use Rattle.skew.specs.Roots.{Block, block, points, Independent, Conjugate, Apart, Lawful}
 use Rattle.skew.specs.Annihilators.{place, places}
-use Rattle.codes.specs.declared.faults.Fault.{Fault}
-use Rattle.codes.specs.declared.faults.Reason.the-variants.{NoCode}
-use Rattle.codes.specs.declared.faults.Reason.the-variants as reason
-use Rattle.codes.specs.declared.sections.Section.{Section}
-use Rattle.codes.specs.declared.sections.Section.the-variants.{Lengths, Parameters, Locators}
+use Rattle.sheets.specs.declared.faults.Fault.{Fault}
+use Rattle.sheets.specs.declared.faults.Reason.the-variants.{NoCode}
+use Rattle.sheets.specs.declared.faults.Reason.the-variants as reason
+use Rattle.sheets.specs.declared.sections.Section.{Section}
+use Rattle.sheets.specs.declared.sections.Section.the-variants.{Lengths, Parameters, Locators}
 use Rattle.codes.specs.declared.route.Course.{Course}
 use Rattle.codes.specs.declared.shape.Code.{Code}
 use Rattle.codes.specs.declared.symbols.Symbols.{Symbols}
-use Rattle.codes.specs.declared.sheets.Sheet.{Sheet}
+use Rattle.sheets.specs.declared.sheets.Sheet.{Sheet}
 use Rattle.codes.specs.Holdings.{held, stops}
-use Rattle.codes.specs.Sections.{part-of, offset-of, Part, view, lengths, parameters, locators}
-use Rattle.codes.specs.Sheets.{Text, Length, Whole}
-use Rattle.codes.specs.Readings.{text-of, Laid}
-use Rattle.codes.specs.Ranks.{total, cut}
+use Rattle.sheets.specs.Sections.{part-of, offset-of, Part, view, lengths, parameters, locators}
+use Rattle.sheets.specs.Sheets.{Text, Length, Whole}
+use Rattle.sheets.specs.Readings.{text-of, Laid}
+use Rattle.ranks.specs.Ranks.{total, cut}
 use Rattle.codes.specs.Codes.{block-size, Lawful-code}
 use Rattle.codes.specs.Fitness.{at-code, Outside, First, All-not, Related, Apart-until, grouped, pointed, route, Gathered, Breaks, Judged, Unfit, no-parameter, no-locator, related, dependent, Made}
 

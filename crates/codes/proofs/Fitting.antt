@@ -10,7 +10,7 @@ use Rattle.std.proofs.shelf.Tests.{cases-lt}
 use Rattle.fields.specs.Meaning.{Meaning}
 use Rattle.fields.specs.Elements.{elem, ops}
 use Rattle.skew.specs.Roots.{Conjugate}
-use Rattle.codes.specs.Ranks.{Tells}
+use Rattle.ranks.specs.Ranks.{Tells}
 use Rattle.codes.specs.Fitness.{Outside, First, Related, Apart-until}
 
 -- A number within the limits is not outside them.

@@ -13,9 +13,9 @@ use Rattle.fields.specs.Meaning.{Meaning}
 use Rattle.fields.specs.Elements.{elems, ops}
 use Rattle.skew.specs.declared.points.Point.{Point}
 use Rattle.skew.specs.Roots.{Independent}
-use Rattle.codes.specs.declared.faults.Fault.{Fault}
-use Rattle.codes.specs.declared.faults.Reason.the-variants.{Dependent}
-use Rattle.codes.specs.Ranks.{total, cut, Depends}
+use Rattle.sheets.specs.declared.faults.Fault.{Fault}
+use Rattle.sheets.specs.declared.faults.Reason.the-variants.{Dependent}
+use Rattle.ranks.specs.Ranks.{total, cut, Depends}
 use Rattle.codes.specs.Fitness.{at-code, pointed, route, Gathered, Breaks}
 
 -- The lengths of the first blocks and of the others make the whole.

@@ -11,8 +11,8 @@ use Rattle.std.proofs.shelf.Lists.{take-all, take-more, length-take, length-dro
 use Rattle.skew.specs.declared.points.Point.{Point}
 use Rattle.codes.specs.declared.shape.Code.{Code}
 use Rattle.codes.specs.Holdings.{held, stops}
-use Rattle.codes.specs.Ranks.{total}
-use Rattle.codes.specs.Sheets.{Text, Length, Whole, spelled}
+use Rattle.ranks.specs.Ranks.{total}
+use Rattle.sheets.specs.Sheets.{Text, Length, Whole, spelled}
 use Rattle.codes.specs.Fitness.{pointed, route}
 use Rattle.codes.specs.Writing.{Described}
 use Rattle.skew.proofs.Filling.{take-cut}

@@ -22,7 +22,7 @@ use Rattle.fields.specs.Elements.{Elem, elems, ops}
 use Rattle.codes.specs.declared.shape.Code.{Code}
 use Rattle.codes.specs.Holdings.{held, stops}
 use Rattle.codes.specs.Codes.{pts, Lawful-code}
-use Rattle.codes.specs.Sheets.{Text, spelled}
+use Rattle.sheets.specs.Sheets.{Text, spelled}
 use Rattle.codes.specs.Writing.{Described}
 use Rattle.codes.specs.Duals.{Codeword, dual-points, Dual-locators}
 

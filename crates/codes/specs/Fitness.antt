@@ -22,15 +22,15 @@ use Rattle.fields.specs.Meaning.{Meaning}
 use Rattle.fields.specs.Elements.{Elem, elem, elems, ops}
 use Rattle.skew.specs.declared.points.Point.{Point}
 use Rattle.skew.specs.Roots.{Block, block, Independent, Conjugate}
-use Rattle.codes.specs.declared.faults.Fault.{Fault}
-use Rattle.codes.specs.declared.faults.Reason.{Reason}
-use Rattle.codes.specs.declared.faults.Reason.the-variants.{NoCode, Dependent}
-use Rattle.codes.specs.declared.faults.Reason.the-variants as reason
-use Rattle.codes.specs.declared.faults.Layer.the-variants as layer
+use Rattle.sheets.specs.declared.faults.Fault.{Fault}
+use Rattle.sheets.specs.declared.faults.Reason.{Reason}
+use Rattle.sheets.specs.declared.faults.Reason.the-variants.{NoCode, Dependent}
+use Rattle.sheets.specs.declared.faults.Reason.the-variants as reason
+use Rattle.sheets.specs.declared.faults.Layer.the-variants as layer
 use Rattle.codes.specs.declared.shape.Code.{Code}
 use Rattle.codes.specs.Holdings.{held, stops}
-use Rattle.codes.specs.Sheets.{Text}
-use Rattle.codes.specs.Ranks.{total, cut, Depends}
+use Rattle.sheets.specs.Sheets.{Text}
+use Rattle.ranks.specs.Ranks.{total, cut, Depends}
 use Rattle.codes.specs.Codes.{Lawful-code}
 
 abbrev pub at-code : Reason → ℕ → Fault

@@ -1,13 +1,4 @@
 pub mod Holdings
-pub mod Faults
-pub mod Sections
-pub mod Sheets
-pub mod Steps
-pub mod Readings
-pub mod Ranks
-pub mod Reduction
-pub mod RowSteps
-pub mod Distance
 pub mod Codes
 pub mod Fitness
 pub mod Duals

@@ -9,7 +9,7 @@ use lib.ListN.{take}
 use Rattle.codes.specs.declared.sheet_bytes.SheetBytes.{SheetBytes}
 use Rattle.codes.specs.declared.shape.Code.{Code}
 use Rattle.codes.specs.Holdings.{held, stops}
-use Rattle.codes.specs.Sheets.{Text, Whole}
+use Rattle.sheets.specs.Sheets.{Text, Whole}
 use Rattle.codes.specs.Fitness.{route}
 
 abbrev pub written : SheetBytes → List ℕ

@@ -4,7 +4,7 @@ ghost use mathlib.Core.Path.{_≡_};
 ghost use Prim.Native.Nat.{ℕ, _<_, _≤_};
 ghost use lib.ListN.{length, getD};
 ghost use Rattle.codes.specs.Holdings.{held};
-ghost use Rattle.codes.specs.Ranks.{total};
+ghost use Rattle.ranks.specs.Ranks.{total};
 use super::route::Course;
 use super::symbols::Symbols;
 

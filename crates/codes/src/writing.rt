@@ -4,7 +4,7 @@ ghost use mathlib.Core.List.{map};
 ghost use Prim.Native.Nat.{_<_, _≤_};
 ghost use lib.ListN.{length, getD, take};
 ghost use Rattle.codes.specs.Holdings.{held, stops};
-ghost use Rattle.codes.specs.Sheets.{Text, spelled};
+ghost use Rattle.sheets.specs.Sheets.{Text, spelled};
 ghost use Rattle.codes.specs.Writing.{written, Described};
 use super::shape::Code;
 use super::sheet_bytes::SheetBytes;

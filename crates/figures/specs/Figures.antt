@@ -5,8 +5,8 @@ use Prim.Native.Nat.{ℕ}
 use Rattle.fields.specs.Shipped.{gf256, gf16, gf81, mod13}
 use Rattle.fields.specs.Elements.{Elem, elem, elems, ops}
 use Rattle.skew.specs.Values.{value-code}
-use Rattle.codes.specs.declared.faults.Reason.the-variants as reason
-use Rattle.codes.specs.Sheets.{Text, Spells}
+use Rattle.sheets.specs.declared.faults.Reason.the-variants as reason
+use Rattle.sheets.specs.Sheets.{Text, Spells}
 use Rattle.codes.specs.Duals.{Dual-locators, syndrome}
 use Rattle.codes.specs.Fitness.{at-code, Unfit}
 

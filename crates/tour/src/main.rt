@@ -8,7 +8,7 @@ use codes::encode;
 use codes::message;
 use codes::set_up;
 use codes::syndromes;
-use codes::weight;
+use ranks::weight;
 use fields::Kind;
 use fields::Mod13;
 use fields::Mod13Kind;

@@ -14,7 +14,7 @@ use Rattle.fields.proofs.ShippedLaws.{gf16-laws}
 use Rattle.skew.specs.Roots.{Independent}
 use Rattle.codes.specs.Duals.{Dual-locators, powers}
 use Rattle.codes.specs.Fitness.{Judged, related, dependent, Apart-until}
-use Rattle.codes.specs.Ranks.{Depends}
+use Rattle.ranks.specs.Ranks.{Depends}
 use Rattle.figures.specs.Figures.{points-A}
 use Rattle.figures.proofs.Small.{none-outside, not-conjugate}
 use Rattle.figures.proofs.figures_stand.Needs as need

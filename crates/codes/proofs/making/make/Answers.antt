@@ -2,8 +2,8 @@ use mathlib.Core.Path.{_≡_, refl, sym, ap, _∙_}
 use native.Mathlib.Omega.{arith}
 use lib.ListN.{length}
 use Rattle.std.proofs.shelf.Results.{err-from-errBy}
-use Rattle.codes.specs.Ranks.{total}
-use Rattle.codes.specs.Sections.{part-of}
+use Rattle.ranks.specs.Ranks.{total}
+use Rattle.sheets.specs.Sections.{part-of}
 use Rattle.codes.proofs.Fitness.{sum-total, locators-offset, unfit-parameter, unfit-locator, unfit-related, unfit-dependent, made, within}
 use Rattle.codes.proofs.making.make.Needs as need
 

@@ -1,6 +1,0 @@
-use Rattle.fields.proofs.Carrier
-use Rattle.codes.proofs.Separating.{minimum-distance}
-use Rattle.codes.proofs.distance.minimum_distance.Needs as need
-
-pub returns : need.returns
-returns g c = minimum-distance (Carrier.ops-laws (g .K·Kind·met .lawful (c .args .kind .now)))

@@ -1,0 +1,4 @@
+pub mod Ranks
+pub mod Reduction
+pub mod RowSteps
+pub mod Distance
