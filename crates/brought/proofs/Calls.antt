@@ -1,7 +1,7 @@
 -- What the calls of the brought kind answer is what its meaning says: the rules of its tables, and sums by exclusive or.
 use Rattle.std.proofs.Common.{◌≡◌, ℕ, suc, ◌+◌, ◌-◌, ◌*◌, ◌%◌, ◌<◌, cond, T, eqb, ltb, ◌⊎◌, [], ◌∷◌, get_or, Some, None, sym, refl, ap, ◌∙◌, ap₂, inl, inr, mod-lt, arith, lit<, lit≤, eqb→eq}
-use native.Mathlib.Nat.{mod-mod}
-use lib.Bits.{bit_xor}
+use Rattle.std.proofs.Math.Nat.{mod-mod}
+use Rattle.std.specs.Int.Bits.{bit_xor}
 use Rattle.std.proofs.lemmas.Bool.{cond-true, lt-ltb}
 use Rattle.fields.specs.Meaning.{clip, inverted, digit_row}
 use Rattle.fields.specs.Residues.{sum, opposite, product, power, trace, traces}

@@ -1,5 +1,7 @@
 // A kind as a customer brings it: GF(256) over GF(16), by tables of powers and logarithms of 2, and of 16th powers, modulo
 // z^8 + z^4 + z^3 + z^2 + 1. Twist is the 16th power, the fixed elements are a GF(16), and two digits make an element.
+#![tactic(auto)]
+
 ghost use Rattle.std.specs.Prelude.{◌≡◌};
 ghost use Rattle.fields.specs.Residues.{product, power};
 ghost use Rattle.fields.specs.Shipped.{modulus256};

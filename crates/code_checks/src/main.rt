@@ -1,5 +1,7 @@
 // Codes over every kind and its mirror: sheets that are refused, and on codes from a fixed generator of numbers encoding, messages,
 // weights, duals and syndromes. What it prints is held to what an unrelated computation printed (reference/codes.py).
+#![tactic(auto)]
+
 use brought::Gf256Over16;
 use coding::coding;
 use drafts::Plan;

@@ -3,7 +3,7 @@
 --   Summing m xs ys i t             t plus the sum over the places from i on is the whole sum
 --   Checking m ps ds w j ts out     ts are the terms of syndrome j, counted from 0, and out holds the syndromes before it
 use Rattle.std.proofs.Common.{◌≡◌, ℕ, suc, ◌+◌, ◌-◌, ◌<◌, ◌≤◌, List, [], ◌∷◌, ◌++◌, length, get_or, take, drop, sym, refl, ap, ◌∙◌, add-one, arith, below_more}
-use lib.ListN.{length-map}
+use Rattle.std.proofs.lemmas.List.{length-map}
 use Rattle.std.proofs.lemmas.List.{drop_more, drop_all, take_all, length_push, get_or_push, get_or_append_left}
 use Rattle.fields.specs.Field.{mirror, scale, comb}
 use Rattle.fields.specs.Field as field

@@ -3,7 +3,7 @@
 --   comb o xs ys     the sum of the products x × y, place by place
 --   series o u f     the sum of f_i × u_i
 use Rattle.std.proofs.Common.{◌≡◌, ℕ, suc, ◌<◌, ◌≤◌, List, [], ◌∷◌, map, length, sym, refl, ap, ◌∙◌, arith}
-use lib.ListN.{length-map}
+use Rattle.std.proofs.lemmas.List.{length-map}
 use Rattle.fields.specs.Lists.{All}
 use Rattle.fields.specs.Field.{Ops, Laws, Zero, comb}
 use Rattle.fields.specs.Basics

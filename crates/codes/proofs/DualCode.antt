@@ -1,6 +1,6 @@
 -- The points of the dual code, gathered one by one, and what the theorems on duals say of it.
 use Rattle.std.proofs.Common.{◌≡◌, ℕ, suc, ◌+◌, ◌-◌, ◌<◌, ◌≤◌, ◌⊎◌, ◌↔◌, List, [], ◌∷◌, ◌++◌, map, length, get_or, take, drop, sym, refl, ap, ◌∙◌, subst, ap₂, inl, inr, arith, length-append}
-use lib.ListN.{length-map}
+use Rattle.std.proofs.lemmas.List.{length-map}
 use Rattle.std.proofs.lemmas.List.{take_all, take_more, map-append, length-take, get_or-map, length-drop}
 use Rattle.fields.specs.Field.{Ops, mirror, comb}
 use Rattle.fields.specs.Meaning.{Meaning, Laws, clip}

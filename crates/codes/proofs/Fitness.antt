@@ -1,6 +1,6 @@
 -- A sheet whose numbers, parameters and locators are judged makes a lawful code; each judgement that fails is its refusal.
 use Rattle.std.proofs.Common.{◌≡◌, ℕ, suc, ◌+◌, ◌<◌, ◌≤◌, ◌≢◌, List, [], ◌∷◌, ◌++◌, map, length, get_or, take, drop, fold, sum, sym, refl, ap, ◌∙◌, subst, ap₂, inl, inr, arith, length-append}
-use lib.ListN.{length-map}
+use Rattle.std.proofs.lemmas.List.{length-map}
 use Rattle.std.proofs.lemmas.Bool.{cases_lt}
 use Rattle.std.specs.List.{AllByRecursion}
 use Rattle.std.proofs.lemmas.List.{map-append, length-take, length-drop}

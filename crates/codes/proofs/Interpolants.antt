@@ -4,7 +4,7 @@
 --   Sharp pts      only zero vanishes at all points with so few coefficients; lawful points are sharp
 --   monomial i     the i-th power of the variable
 use Rattle.std.proofs.Common.{◌≡◌, ℕ, suc, ◌-◌, ◌≤◌, ◌≢◌, List, [], ◌∷◌, ◌++◌, map, length, take, replicate, sym, refl, ap, ◌∙◌, subst, arith, length-append}
-use lib.ListN.{length-map, length-replicate}
+use Rattle.std.proofs.lemmas.List.{length-map, length-replicate}
 use Rattle.fields.specs.Lists.{All}
 use Rattle.fields.specs.Field.{Ops, Laws, Zero, plus, scale}
 use Rattle.fields.specs.Basics

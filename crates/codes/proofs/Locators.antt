@@ -10,7 +10,8 @@
 --   Multipliers pts m i ws     so it is with the places from i on
 --   moment                     the sum of dual locator × power n - 1
 use Rattle.std.proofs.Common.{◌≡◌, ℕ, suc, ◌+◌ as ◌+ℕ◌, ◌-◌, ◌≤◌, ◌≢◌, List, [], ◌∷◌, ◌++◌, length, replicate, sym, refl, ap, ◌∙◌, append-nil, arith, length-append}
-use lib.ListN.{length-map, length-replicate, get_or-eq_default}
+use Rattle.std.proofs.lemmas.List.{length-map, length-replicate}
+use Rattle.std.proofs.Math.ListN.{get_or-eq_default}
 use Rattle.fields.specs.Lists.{All}
 use Rattle.fields.specs.Field.{Ops, Laws, plus, scale, comb}
 use Rattle.fields.specs.Basics

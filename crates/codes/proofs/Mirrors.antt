@@ -5,8 +5,8 @@
 --
 --   power o a i b     (b twisted i times) × N(i, a)
 use Rattle.std.proofs.Common.{◌≡◌, ℕ, suc, ◌+◌ as ◌+ℕ◌, ◌-◌, ◌<◌, ◌≤◌, ◌≢◌, ◌↔◌, List, [], ◌∷◌, ◌++◌, map, length, take, drop, sym, refl, ap, ◌∙◌, subst, arith, length-drop}
-use mathlib.Core.Path.{fun_ext}
-use lib.ListN.{length-map}
+use Rattle.std.proofs.Math.Path.{fun_ext}
+use Rattle.std.proofs.lemmas.List.{length-map}
 use Rattle.fields.specs.Field.{Ops, Laws, mirror, comb}
 use Rattle.fields.specs.Basics
 use Rattle.fields.specs.Basics.{ring}

@@ -2,7 +2,7 @@
 --
 --   Gathering m ps i out    out holds the multipliers of the first i places
 use Rattle.std.proofs.Common.{◌≡◌, ℕ, suc, ◌+◌, ◌-◌, ◌<◌, ◌≤◌, List, [], ◌∷◌, ◌++◌, length, get_or, take, set, replicate, Some, None, sym, refl, ap, ◌∙◌, subst, arith, below_more}
-use lib.ListN.{length-map}
+use Rattle.std.proofs.lemmas.List.{length-map}
 use Rattle.std.proofs.lemmas.List.{take_all, take-replicate, length_push, get_or_push, get_or_append_left, get_or-map}
 use Rattle.fields.specs.Field.{scale}
 use Rattle.fields.specs.Field as field

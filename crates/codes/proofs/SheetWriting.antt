@@ -2,7 +2,7 @@
 --
 --   Listing c i at ps    for every sheet of which c is the code, ps are its first i parameters, and block i begins at point `at`
 use Rattle.std.proofs.Common.{◌≡◌, ℕ, suc, ◌+◌, ◌<◌, ◌≤◌, min, List, [], ◌∷◌, ◌++◌, map, length, get_or, take, drop, sum, sym, refl, ap, ◌∙◌, ap₂, append_assoc, arith, length-append}
-use lib.ListN.{length-map}
+use Rattle.std.proofs.lemmas.List.{length-map}
 use Rattle.std.specs.List.{AllByRecursion as All}
 use Rattle.std.proofs.lemmas.List.{take_all, length-take, length-drop, get_or-map, get_or_append_left, get_or-append-add, map-append, take-append-drop}
 use Rattle.skew.specs.declared.points.Point.{Point}

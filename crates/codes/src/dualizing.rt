@@ -21,8 +21,8 @@ use skew::Point;
 fn turned<K: Kind>(kind: &K, points: &[Point], locators: &Symbols) -> Course
     requires size { length (held locators.now) ≡ length points.now }
     requires room { length points.now ≤ 24 }
-    ensures exact { let m = meaning kind.now in stops result ≡ turned_points m points.now (held locators.now) }
-    ensures points { let m = meaning kind.now in places m (stops result) ≡ dual_points (ops m) (places m points.now) (elems m (held locators.now)) }
+    ensures exact { let m = K.meaning kind.now in stops result ≡ turned_points m points.now (held locators.now) }
+    ensures points { let m = K.meaning kind.now in places m (stops result) ≡ dual_points (ops m) (places m points.now) (elems m (held locators.now)) }
 {
     let mut out = Course::empty();
     for i in 0..points.len() {
@@ -36,7 +36,7 @@ fn turned<K: Kind>(kind: &K, points: &[Point], locators: &Symbols) -> Course
 // The dual of a code, of dimension n - k: its codewords are the words whose sum of products with every codeword is 0. Nothing
 // where k is n.
 pub fn dual<K: Kind>(kind: &K, code: &Code) -> Option<Code>
-    ensures { let m = meaning kind.now in MatchOption result (Undual m code.now) (λ d. Dualized m code.now d) }
+    ensures { let m = K.meaning kind.now in MatchOption result (Undual m code.now) (λ d. Dualized m code.now d) }
 {
     let points = code.course.as_slice();
     if code.dimension >= points.len() {
@@ -64,7 +64,7 @@ fn across(number: u8) -> u8
 
 // The sheet of the dual code over the mirror: 5 + 2l + n bytes. Nothing where k is n.
 pub fn dual_sheet<K: Kind>(kind: &K, code: &Code) -> Option<SheetBytes>
-    ensures { let m = meaning kind.now in MatchOption result (Undual m code.now) (λ s. DualSheet m code.now (written s)) }
+    ensures { let m = K.meaning kind.now in MatchOption result (Undual m code.now) (λ s. DualSheet m code.now (written s)) }
 {
     let d = dual(kind, code)?;
     let number = across(kind.number());

@@ -16,8 +16,8 @@ use skew::{Point, interpolate};
 // the words whose product_sum with every codeword is 0, its dual has the codewords of the first code, and syndromes tell
 // codewords. Theorems, which this contract asks for.
 pub fn duals_stand<K: Kind>(kind: &K) -> u8
-    ensures duality { Duality (ops (meaning kind.now)) }
-    ensures mirrors { let m = meaning kind.now in ops (mirrored m) ≡ mirror (ops m) }
+    ensures duality { Duality (ops (K.meaning kind.now)) }
+    ensures mirrors { let m = K.meaning kind.now in ops (mirrored m) ≡ mirror (ops m) }
 {
     0
 }
@@ -26,7 +26,7 @@ pub fn duals_stand<K: Kind>(kind: &K) -> u8
 // for some points that are not lawful.
 fn multiplier<K: Kind>(kind: &K, points: &[Point], i: usize) -> Option<u8>
     requires { (i < length points.now) × (length points.now ≤ 24) }
-    ensures { let m = meaning kind.now in let ps = points.now in MatchOption result (Unlawful m ps) (λ w. MultiplierAt m ps i w) }
+    ensures { let m = K.meaning kind.now in let ps = points.now in MatchOption result (Unlawful m ps) (λ w. MultiplierAt m ps i w) }
 {
     let mut row = [0; ROOM];
     row[i] = 1;
@@ -37,7 +37,7 @@ fn multiplier<K: Kind>(kind: &K, points: &[Point], i: usize) -> Option<u8>
 // The multipliers of all places.
 fn multipliers<K: Kind>(kind: &K, points: &[Point]) -> Option<Symbols>
     requires { length points.now ≤ 24 }
-    ensures { let m = meaning kind.now in let ps = points.now in MatchOption result (Unlawful m ps) (λ s. MultipliersOf m ps (held s)) }
+    ensures { let m = K.meaning kind.now in let ps = points.now in MatchOption result (Unlawful m ps) (λ s. MultipliersOf m ps (held s)) }
 {
     let mut out = Symbols::empty();
     for i in 0..points.len() {
@@ -49,7 +49,7 @@ fn multipliers<K: Kind>(kind: &K, points: &[Point]) -> Option<Symbols>
 
 // Every symbol of the row times c, as far as there is room.
 pub fn scaled<K: Kind>(kind: &K, c: u8, row: &[u8]) -> Symbols
-    ensures { let m = meaning kind.now in held result ≡ take 24 (codes (scale (ops m) (elem m c) (elems m row.now))) }
+    ensures { let m = K.meaning kind.now in held result ≡ take 24 (codes (scale (ops m) (elem m c) (elems m row.now))) }
 {
     let mut out = Symbols::empty();
     for x in row {
@@ -63,7 +63,7 @@ pub fn scaled<K: Kind>(kind: &K, c: u8, row: &[u8]) -> Symbols
 // the places of dual locator × (locator twisted i times) × N(i, parameter). Nothing for no point, for more than 24, and
 // for some points that are not lawful.
 pub fn dual_locators<K: Kind>(kind: &K, points: &[Point]) -> Option<Symbols>
-    ensures { let m = meaning kind.now in let ps = points.now in
+    ensures { let m = K.meaning kind.now in let ps = points.now in
         MatchOption result ((length ps ≡ 0) ⊎ ((24 < length ps) ⊎ Unlawful m ps)) (λ s. Located m ps (held s)) }
 {
     if points.len() == 0 {

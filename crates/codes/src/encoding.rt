@@ -12,7 +12,7 @@ use skew::{Polynomial, interpolate, value};
 
 // The codeword of a message: its value at each point, in order.
 pub fn encode<K: Kind>(kind: &K, code: &Code, message: &[u8]) -> Symbols
-    ensures { let m = meaning kind.now in held result ≡ codes (word_of m code.now (elems m message.now)) }
+    ensures { let m = K.meaning kind.now in held result ≡ codes (word_of m code.now (elems m message.now)) }
 {
     let points = code.course.as_slice();
     let mut out = Symbols::empty();
@@ -25,7 +25,7 @@ pub fn encode<K: Kind>(kind: &K, code: &Code, message: &[u8]) -> Symbols
 
 // The one message of a codeword; nothing for every other word.
 pub fn message<K: Kind>(kind: &K, code: &Code, word: &[u8]) -> Option<Polynomial>
-    ensures { let m = meaning kind.now in MatchOption result (Unread m code.now word.now) (λ f. Read m code.now word.now (coefficients f)) }
+    ensures { let m = K.meaning kind.now in MatchOption result (Unread m code.now word.now) (λ f. Read m code.now word.now (coefficients f)) }
 {
     let points = code.course.as_slice();
     let f = interpolate(kind, points, word)?;

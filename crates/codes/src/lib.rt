@@ -1,5 +1,7 @@
 // Linearized Reed-Solomon codes over any kind of field: the sheet that describes one, the code that it makes, and what is done
 // with a code.
+#![tactic(auto)]
+
 mod dualizing;
 mod duals;
 mod encoding;

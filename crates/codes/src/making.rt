@@ -18,7 +18,7 @@ use skew::Point;
 
 // The first byte that is below `least` or no code.
 fn first_outside<K: Kind>(kind: &K, bytes: &[u8], least: u8) -> Option<usize>
-    ensures { let m = meaning kind.now in options.MatchOption result (AllNot (Outside m least) bytes.now) (λ i. First (Outside m least) bytes.now i) }
+    ensures { let m = K.meaning kind.now in options.MatchOption result (AllNot (Outside m least) bytes.now) (λ i. First (Outside m least) bytes.now i) }
 {
     let size = kind.size();
     for i in 0..bytes.len() {
@@ -36,7 +36,7 @@ fn first_outside<K: Kind>(kind: &K, bytes: &[u8], least: u8) -> Option<usize>
 // Whether parameter j is conjugate to an earlier one.
 fn related<K: Kind>(kind: &K, parameters: &[u8], j: usize) -> bool
     requires { j < length parameters.now }
-    ensures { let m = meaning kind.now in Tells result (Related m parameters.now j) }
+    ensures { let m = K.meaning kind.now in Tells result (Related m parameters.now j) }
 {
     for i in 0..j {
         if conjugate(kind, parameters[i], parameters[j]) {
@@ -48,7 +48,7 @@ fn related<K: Kind>(kind: &K, parameters: &[u8], j: usize) -> bool
 
 // The first parameter that is.
 fn first_related<K: Kind>(kind: &K, parameters: &[u8]) -> Option<usize>
-    ensures { let m = meaning kind.now in let ps = parameters.now in
+    ensures { let m = K.meaning kind.now in let ps = parameters.now in
         options.MatchOption result (ApartUntil m ps (length ps)) (λ j. (j < length ps) × ApartUntil m ps j × Related m ps j) }
 {
     for j in 0..parameters.len() {
@@ -93,7 +93,7 @@ fn gather<K: Kind>(
     requires sum { length locators.now ≡ total lengths.now }
     requires few { total lengths.now ≤ 24 }
     requires near { base ≤ 100 }
-    ensures { let m = meaning kind.now in
+    ensures { let m = K.meaning kind.now in
         MatchResult result (λ c. Gathered m lengths.now parameters.now locators.now (stops c)) (λ e. Breaks m lengths.now locators.now base e) }
 {
     let mut course = Course::empty();
@@ -126,7 +126,7 @@ fn copied(source: &[u8]) -> Symbols
 fn make<K: Kind>(kind: &K, sheet: Sheet<'_>) -> Result<Code, Fault>
     requires laid { Laid sheet }
     requires whole { Whole (text_of sheet).dimension (text_of sheet).blocks (text_of sheet).parameters (text_of sheet).locators }
-    ensures { let m = meaning kind.now in MatchResult result (λ c. Made m (text_of sheet.entry) c) (λ e. Unfit m (text_of sheet.entry) e) }
+    ensures { let m = K.meaning kind.now in MatchResult result (λ c. Made m (text_of sheet.entry) c) (λ e. Unfit m (text_of sheet.entry) e) }
 {
     let lengths = sheet.lengths.bytes();
     let parameters = sheet.parameters.bytes();
@@ -150,7 +150,7 @@ fn make<K: Kind>(kind: &K, sheet: Sheet<'_>) -> Result<Code, Fault>
 
 // The lawful code that the bytes describe for this kind, or the refusal of the rules.
 pub fn set_up<K: Kind>(kind: &K, bytes: &[u8]) -> Result<Code, Fault>
-    ensures { let m = meaning kind.now in let b = bytes.now in
+    ensures { let m = K.meaning kind.now in let b = bytes.now in
         MatchResult result (λ c. (t : Text) × Spells m.number b t × Made m t c) (λ e. Refused m.number b e ⊎ ((t : Text) × Spells m.number b t × Unfit m t e)) }
 {
     let number = kind.number();

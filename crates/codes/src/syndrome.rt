@@ -12,7 +12,7 @@ use skew::Point;
 
 // The sum of the products, place by place.
 fn product_sum<K: Kind>(kind: &K, word: &[u8], terms: &Symbols) -> u8
-    ensures { let m = meaning kind.now in result ≡ (comb (ops m) (elems m word.now) (elems m (held terms.now))).code }
+    ensures { let m = K.meaning kind.now in result ≡ (comb (ops m) (elems m word.now) (elems m (held terms.now))).code }
 {
     let mut total = 0;
     for i in 0..word.len() {
@@ -25,7 +25,7 @@ fn product_sum<K: Kind>(kind: &K, word: &[u8], terms: &Symbols) -> u8
 // Each term times the parameter of its place, untwisted: the terms of the next syndrome.
 fn advance<K: Kind>(kind: &K, points: &[Point], terms: &Symbols) -> Symbols
     requires { length (held terms.now) ≡ length points.now }
-    ensures { let m = meaning kind.now in held result ≡ take 24 (codes (advanced m points.now (elems m (held terms.now)))) }
+    ensures { let m = K.meaning kind.now in held result ≡ take 24 (codes (advanced m points.now (elems m (held terms.now)))) }
 {
     let mut out = Symbols::empty();
     for i in 0..points.len() {
@@ -47,7 +47,7 @@ pub fn syndromes<K: Kind>(
     k: usize,
     word: &[u8],
 ) -> Option<Symbols>
-    ensures { let m = meaning kind.now in let ps = points.now in let ds = duals.now in let w = word.now in
+    ensures { let m = K.meaning kind.now in let ps = points.now in let ds = duals.now in let w = word.now in
         MatchOption result ((24 < length ps) ⊎ ((length ds ≢ length ps) ⊎ ((length w ≢ length ps) ⊎ (length ps < k)))) (λ s. Checked m ps ds k w (held s)) }
 {
     let n = points.len();

@@ -1,5 +1,7 @@
 // Every operation of every kind at every byte, and at every pair of bytes, for the shipped kinds, the brought one and their
 // mirrors. What it prints is held to what an unrelated computation printed (reference/fields.py).
+#![tactic(auto)]
+
 ghost use Rattle.std.specs.Prelude.{◌≡◌};
 
 use brought::Gf256Over16;

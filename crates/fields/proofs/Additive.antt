@@ -1,6 +1,7 @@
 -- A map of bytes that keeps exclusive or is the one that its values at 1, 2, 4, .., 128 spread.
 use Rattle.std.proofs.Common.{◌≡◌, ℕ, suc, ◌+◌, ◌*◌, ◌/◌, ◌%◌, ◌^◌, ◌<◌, ◌≤◌, cond, eqb, List, [], ◌∷◌, sym, refl, ap, ◌∙◌, subst, ap₂, lt_of_lt_of_le, mod-lt, mul_assoc, mul_comm, div-lt_iff_lt-mul, add-mul, mul-lt-mul_of_pos_right, one-mul, pow-suc, div-add-mod', zero-mul, mul-one, arith, lit<, pow_mono}
-use lib.Bits.{bit_xor, xor_shifted, xor_comm}
+use Rattle.std.specs.Int.Bits.{bit_xor, xor_shifted}
+use Rattle.std.proofs.lemmas.Nat.{xor_comm}
 use Rattle.std.proofs.lemmas.Nat.{pow_pos, pow-add}
 use Rattle.fields.specs.Additive.{spread}
 

@@ -1,7 +1,7 @@
 -- Over the integers modulo 2 the sum of codes is the exclusive or of their bits, and a round of the product chooses x or
 -- nothing. `Rounds` has the glossary.
 use Rattle.std.proofs.Common.{◌≡◌, ℕ, zero, suc, ◌+◌, ◌-◌, ◌*◌, ◌/◌, ◌%◌, ◌^◌, ◌<◌, cond, eqb, sym, refl, ap, ◌∙◌, subst, ap₂, mod-lt, div-lt_iff_lt-mul, pow-suc, arith, lit<, eqb→eq}
-use lib.Arith.{lt-one}
+use Rattle.std.proofs.Math.Arith.{lt-one}
 use lib.Bits.{bit_xor, differ, xor_step}
 use Rattle.fields.specs.Residues.{coefficients, code, plus, scale, Modulus, degree, polynomial, sum, opposite, raised}
 use Rattle.fields.specs.Shipped.{modulus256}

@@ -1,6 +1,6 @@
 -- What the calls of kind 1 answer is what its meaning says.
 use Rattle.std.proofs.Common.{◌≡◌, ℕ, ◌<◌, ltb, [], ◌∷◌, sym, refl, ap, ◌∙◌, ap₂, lit<, lit≤}
-use lib.Bits.{bit_xor}
+use Rattle.std.specs.Int.Bits.{bit_xor}
 use Rattle.std.proofs.lemmas.Bool.{cond-true, lt-ltb}
 use Rattle.fields.specs.Meaning.{clip, digit_row}
 use Rattle.fields.specs.Residues.{sum, opposite, product, power, trace, traces}

@@ -1,6 +1,6 @@
 -- The loop that raises a to the power p^d - 2, its inverse, by p-th powers.
 use Rattle.std.proofs.Common.{◌≡◌, ℕ, ◌+◌, ◌-◌, ◌*◌, ◌^◌, ◌<◌, sym, refl, ap, ◌∙◌, subst, ap₂, pow-suc, add-one, arith, lit<}
-use native.Mathlib.Nat.{one-le-pow}
+use Rattle.std.proofs.Math.Nat.{one-le-pow}
 use Rattle.std.proofs.lemmas.Nat.{pow_pos}
 use Rattle.fields.specs.Residues.{Modulus, degree, product, power}
 use Rattle.fields.specs.Shipped.{modulus256, modulus81}

@@ -1,6 +1,6 @@
 -- The tables of kind 2, each with its rule, tested over the whole table; and what its calls answer.
 use Rattle.std.proofs.Common.{◌≡◌, ℕ, ◌+◌, ◌-◌, ◌%◌, ◌<◌, cond, eqb, ltb, ◌⊎◌, List, [], ◌∷◌, ◌++◌, get_or, Some, None, sym, refl, ap, ◌∙◌, ap₂, inl, inr, lit<, eqb→eq}
-use lib.Bits.{bit_xor}
+use Rattle.std.specs.Int.Bits.{bit_xor}
 use Rattle.std.proofs.lemmas.Bool.{cond-true, lt-ltb}
 use Rattle.fields.specs.Meaning.{clip, inverted, digit_row}
 use Rattle.fields.specs.Residues.{sum, opposite, product, power, trace, traces}

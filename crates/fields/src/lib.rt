@@ -2,6 +2,8 @@
 //
 // A kind has Q elements, coded 0 to Q - 1. An argument that is no code counts as 0, and no call alters the kind.
 // What a kind means, and the laws that it owes, are in specs/Meaning.antt; a kind that breaks one cannot be built.
+#![tactic(auto)]
+
 ghost use Rattle.std.specs.Prelude.{◌≡◌, ℕ};
 ghost use Rattle.fields.specs.Meaning.{Meaning, Laws, clip, inverted};
 ghost use Rattle.fields.specs.Meaning.{basis_at, digit_row};
@@ -70,14 +72,14 @@ pub trait Kind {
 
 // What a counts as: itself where it is a code, else 0.
 pub fn code<K: Kind>(kind: &K, a: u8) -> u8
-    ensures { result ≡ clip (meaning kind.now) a }
+    ensures { result ≡ clip (K.meaning kind.now) a }
 {
     if (a as u16) < kind.size() { a } else { 0 }
 }
 
 // The inverse, and 0 at 0.
 pub fn reciprocal<K: Kind>(kind: &K, a: u8) -> u8
-    ensures { let m = meaning kind.now in result ≡ reciprocal_of m (clip m a) }
+    ensures { let m = K.meaning kind.now in result ≡ reciprocal_of m (clip m a) }
 {
     match kind.inverse(a) {
         Some(b) => b,
@@ -87,8 +89,8 @@ pub fn reciprocal<K: Kind>(kind: &K, a: u8) -> u8
 
 // The elements of every kind are a field with an automorphism: a theorem, which this contract asks for.
 pub fn elements_stand<K: Kind>(kind: &K) -> u8
-    ensures field { field.Laws (ops (meaning kind.now)) }
-    ensures digits { let m = meaning kind.now in DigitsLinear (ops m) (basis_of m) (digits_of m) }
+    ensures field { field.Laws (ops (K.meaning kind.now)) }
+    ensures digits { let m = K.meaning kind.now in DigitsLinear (ops m) (basis_of m) (digits_of m) }
 {
     0
 }

@@ -1,6 +1,6 @@
 -- The parts of one block, as the program makes them.
 use Rattle.std.proofs.Common.{◌≡◌, ℕ, suc, ◌-◌, ◌≤◌, List, [], ◌∷◌, ◌++◌, map, length, take, replicate, sym, refl, ap, ◌∙◌, arith}
-use lib.ListN.{length-map}
+use Rattle.std.proofs.lemmas.List.{length-map}
 use Rattle.std.proofs.lemmas.List.{map-append, take-map, take_at}
 use Rattle.fields.specs.Field.{plus}
 use Rattle.fields.specs.Field as field

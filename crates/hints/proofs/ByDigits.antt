@@ -1,6 +1,6 @@
 -- An element is reduced by elements whose digits are in reduced form: each is taken off times the digit at its pivot.
 use Rattle.std.proofs.Common.{◌≡◌, ℕ, Bool, List, [], ◌∷◌, map, length, sym, refl, ap, ◌∙◌, subst, arith}
-use lib.ListN.{length-map}
+use Rattle.std.proofs.lemmas.List.{length-map}
 use Rattle.fields.specs.Lists.{All}
 use Rattle.fields.specs.Field.{Ops, Laws, Fixed, plus, scale, comb}
 use Rattle.fields.specs.Basics

@@ -6,7 +6,7 @@
 --   least o w g e           the column part has what e has at the pivots; of the rest the row part is what the map takes off, and the full part
 --                           what it leaves
 use Rattle.std.proofs.Common.{◌≡◌, ℕ, ◌≤◌, Bool, List, [], ◌∷◌, map, length, sym, refl, ap, ◌∙◌, arith}
-use lib.ListN.{length-map}
+use Rattle.std.proofs.lemmas.List.{length-map}
 use Rattle.fields.specs.Lists.{All}
 use Rattle.fields.specs.Field.{Ops, Laws, Fixed, plus}
 use Rattle.fields.specs.Basics.{ring}

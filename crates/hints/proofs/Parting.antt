@@ -3,7 +3,7 @@
 --   Parted m ns gs d i at p     p has the parts of the first i blocks, which end at the place `at`: lightest parts of the other blocks behind them
 --                               make lightest parts of all
 use Rattle.std.proofs.Common.{◌≡◌, ℕ, suc, ◌+◌, ◌<◌, ◌≤◌, List, [], ◌∷◌, ◌++◌, length, get_or, take, drop, sym, refl, ap, ◌∙◌, subst, add_assoc, add-one, arith, length-append, length-drop, drop-cons}
-use lib.ListN.{length-map}
+use Rattle.std.proofs.lemmas.List.{length-map}
 use Rattle.std.proofs.lemmas.List.{append-nil, append_assoc, map-append, take_all, take_at, take-map, drop_at, drop_all, drop-drop, drop-map, length-take-le}
 use Rattle.fields.specs.Lists.{All}
 use Rattle.fields.specs.Field as field

@@ -2,8 +2,8 @@
 --
 --   way m n b     the pivots of the column hints, and the map by the row hints' digits
 use Rattle.std.proofs.Common.{◌≡◌, ℕ, suc, ◌-◌, ◌≤◌, List, [], ◌∷◌, ◌++◌, map, length, take, replicate, sym, refl, ap, ◌∙◌, subst, arith, length-append}
-use mathlib.Core.Path.{fun_ext}
-use lib.ListN.{length-map, length-replicate}
+use Rattle.std.proofs.Math.Path.{fun_ext}
+use Rattle.std.proofs.lemmas.List.{length-map, length-replicate}
 use Rattle.std.proofs.lemmas.List.{take_at, drop_at}
 use Rattle.fields.specs.Lists.{All}
 use Rattle.fields.specs.Field.{Zero, comb}

@@ -3,8 +3,8 @@
 --   Copied xs i out     the first i of the eight numbers of out are those of xs
 --   Loaded e i out      the first i symbols of e, and then zeros, up to eight places
 use Rattle.std.proofs.Common.{◌≡◌, ℕ, suc, ◌+◌, ◌-◌, ◌<◌, ◌≤◌, List, [], ◌∷◌, ◌++◌, map, length, get_or, take, set, replicate, sym, refl, ap, ◌∙◌, add-one, arith, length-set}
-use lib.ListN.{length-map}
-use lib.Seq.{append_snoc}
+use Rattle.std.proofs.lemmas.List.{length-map}
+use Rattle.std.proofs.Math.Seq.{append_snoc}
 use Rattle.std.proofs.lemmas.List.{take_all, take_more, take_more_set, set_at, length-take-le, length_push, get_or-map}
 use Rattle.fields.specs.Field.{plus}
 use Rattle.fields.specs.Field as field

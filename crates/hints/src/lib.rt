@@ -1,4 +1,6 @@
 // Hints on where a word is wrong, and the splitting of a difference by them.
+#![tactic(auto)]
+
 mod block;
 mod holder;
 mod parts;

@@ -18,7 +18,7 @@ use ranks::{Form, Row, WIDTH, cleared};
 
 // The element with these digits.
 pub fn element_of<K: Kind>(kind: &K, row: &Row) -> u8
-    ensures { let m = meaning kind.now in result ≡ (from_digits m (row_of m row.now)).code }
+    ensures { let m = K.meaning kind.now in result ≡ (from_digits m (row_of m row.now)).code }
 {
     let mut total = 0;
     for i in 0..WIDTH {
@@ -31,7 +31,7 @@ pub fn element_of<K: Kind>(kind: &K, row: &Row) -> u8
 
 // The element less what the elements whose digits stand in the form span.
 fn reduced<K: Kind>(kind: &K, form: &Form, x: u8) -> u8
-    ensures { let m = meaning kind.now in (InForm m form.now → result ≡ (reduced_by m form.now (elem m x)).code) }
+    ensures { let m = K.meaning kind.now in (InForm m form.now → result ≡ (reduced_by m form.now (elem m x)).code) }
 {
     let digits = kind.digits(x);
     let row = Row { cells: digits };
@@ -41,7 +41,7 @@ fn reduced<K: Kind>(kind: &K, form: &Form, x: u8) -> u8
 
 // So at each place.
 fn reduced_row<K: Kind>(kind: &K, form: &Form, row: &Row) -> Row
-    ensures { let m = meaning kind.now in
+    ensures { let m = K.meaning kind.now in
         (InForm m form.now → result.cells ≡ codes (map (reduced_by m form.now) (row_of m row.now))) }
 {
     let mut out = *row;
@@ -54,7 +54,7 @@ fn reduced_row<K: Kind>(kind: &K, form: &Form, row: &Row) -> Row
 
 // a less b, place by place.
 fn less<K: Kind>(kind: &K, a: &Row, b: &Row) -> Row
-    ensures { let m = meaning kind.now in
+    ensures { let m = K.meaning kind.now in
         result.cells ≡ codes (plus (ops m) (row_of m a.now) (map (ops m).neg (row_of m b.now))) }
 {
     let mut out = *a;
@@ -93,7 +93,7 @@ fn append(symbols: &mut Symbols, row: &Row, n: usize)
 // The parts of one block, behind those of the others.
 fn split_block<K: Kind>(kind: &K, hints: &BlockHints, e: &[u8], parts: &mut Parts)
     requires { length e.now ≤ 8 }
-    ensures { let m = meaning kind.now in let e = e.entry.now in
+    ensures { let m = K.meaning kind.now in let e = e.entry.now in
         ((g : Given (Elem m)) → BlockHolds m (length e) hints.now g → BlockSplit m e g parts.old parts.new) }
 {
     let start = row_of(e);
@@ -109,7 +109,7 @@ fn split_block<K: Kind>(kind: &K, hints: &BlockHints, e: &[u8], parts: &mut Part
 // The parts of a difference in at most twelve blocks of at most eight symbols, at most 24 in all: a splitting by the hints, and none
 // has a full part of less weight.
 pub fn least_splitting<K: Kind>(kind: &K, lengths: &[u8], hints: &Hints, difference: &[u8]) -> Parts
-    ensures { let m = meaning kind.now in let ns = lengths.now in let d = difference.now in
+    ensures { let m = K.meaning kind.now in let ns = lengths.now in let d = difference.now in
         ((k : ℕ) (gs : List (Given (Elem m))) → Holds m ns k hints.now gs → Divided ns d → LeastAnswer m ns gs d result) }
 {
     let mut parts = Parts {

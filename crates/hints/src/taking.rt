@@ -20,7 +20,7 @@ use ranks::{Form, Row};
 
 // The first coefficient that is no code, or not fixed.
 fn first_unfixed<K: Kind>(kind: &K, coefficients: &[u8]) -> Option<usize>
-    ensures { let m = meaning kind.now in let h = coefficients.now in
+    ensures { let m = K.meaning kind.now in let h = coefficients.now in
         MatchOption result (AllNot (Unfixed m) h) (λ i. First (Unfixed m) h i) }
 {
     let size = kind.size();
@@ -39,7 +39,7 @@ fn first_unfixed<K: Kind>(kind: &K, coefficients: &[u8]) -> Option<usize>
 
 // The form with one row more; nothing where the row is a sum of its rows with fixed coefficients.
 fn extended<K: Kind>(kind: &K, form: &Form, row: &Row) -> Option<Form>
-    ensures { let m = meaning kind.now in let f = form.now in let h = row_of m row.now in
+    ensures { let m = K.meaning kind.now in let f = form.now in let h = row_of m row.now in
         (InForm m f → FixedRow (ops m) 8 h → MatchOption result (AmongRows (ops m) 8 (rows_of m f) h) (λ g. Extended m f h g)) }
 {
     let mut more = *form;
@@ -75,7 +75,7 @@ impl Hints {
     // taken alters nothing.
     pub fn add_row<K: Kind>(&mut self, kind: &K, code: &Code, block: usize, element: u8) -> Verdict
         ensures kept { After result (Unit {0}) (self.new ≡ self.old) }
-        ensures judged { let m = meaning kind.now in let ns = held code.now.lengths in let k = code.now.dimension in
+        ensures judged { let m = K.meaning kind.now in let ns = held code.now.lengths in let k = code.now.dimension in
             ((gs : List (Given (Elem m))) → Holds m ns k self.old gs
             → RowJudged m ns k gs block element result × After result (Holds m ns k self.new (with_row m gs block element)) (Unit {0})) }
     {
@@ -114,7 +114,7 @@ impl Hints {
         coefficients: &[u8],
     ) -> Verdict
         ensures kept { After result (Unit {0}) (self.new ≡ self.old) }
-        ensures judged { let m = meaning kind.now in let ns = held code.now.lengths in let k = code.now.dimension in
+        ensures judged { let m = K.meaning kind.now in let ns = held code.now.lengths in let k = code.now.dimension in
             let h = coefficients.now in
             ((gs : List (Given (Elem m))) → Holds m ns k self.old gs
             → ColumnJudged m ns k gs block h result × After result (Holds m ns k self.new (with_column m gs block h)) (Unit {0})) }

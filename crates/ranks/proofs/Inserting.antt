@@ -6,7 +6,7 @@
 --   left, taken           h cleared by the rows, and what was taken off
 --   g, swept, new         the new row, with one at the place p; the other rows with zero there; all of them
 use Rattle.std.proofs.Common.{◌≡◌, ℕ, suc, ◌+◌ as ◌+ℕ◌, ◌≤◌, Bool, true, false, ◌≢◌, List, [], ◌∷◌, map, length, get_or, drop, set, sym, refl, ap, ◌∙◌, subst, arith, length-set}
-use lib.ListN.{length-map}
+use Rattle.std.proofs.lemmas.List.{length-map}
 use Rattle.fields.specs.Lists.{All}
 use Rattle.fields.specs.Field.{Ops, Laws, Zero, Fixed, plus, scale}
 use Rattle.fields.specs.Basics

@@ -1,6 +1,6 @@
 -- Sums of rows times elements, what is picked of them at marked places, and what rows span.
 use Rattle.std.proofs.Common.{◌≡◌, ℕ, suc, ◌+◌ as ◌+ℕ◌, ◌≤◌, Bool, true, false, List, [], ◌∷◌, map, length, drop, sym, refl, ap, ◌∙◌, subst, arith, drop_of_length-le}
-use lib.ListN.{length-map}
+use Rattle.std.proofs.lemmas.List.{length-map}
 use Rattle.fields.specs.Lists.{All}
 use Rattle.fields.specs.Field.{Ops, Laws, Zero, Fixed, plus, scale, comb}
 use Rattle.fields.specs.Basics

@@ -5,8 +5,9 @@
 --   Clearing o marks slots h left p     what is left, less the rows from place p on, is h cleared by all
 --   Sweeping m rows p h i new    the first i rows are swept, the others as they were
 use Rattle.std.proofs.Common.{◌≡◌, ℕ, suc, ◌+◌, ◌<◌, ◌≤◌, Bool, true, false, ◌≢◌, List, [], ◌∷◌, map, length, get_or, drop, set, Some, None, sym, refl, ap, ◌∙◌, subst, inl, inr, add-one, arith, length-set, drop-cons, get_or-set_other, get_or-set_same, below_more}
-use lib.ListN.{length-map, get_or-eq_default}
-use lib.Seq.{map-set}
+use Rattle.std.proofs.lemmas.List.{length-map}
+use Rattle.std.proofs.Math.ListN.{get_or-eq_default}
+use Rattle.std.proofs.lemmas.List.{map-set}
 use Rattle.std.proofs.lemmas.Bool.{cases_lt}
 use Rattle.std.proofs.lemmas.List.{same_lists, get_or-map, drop_all}
 use Rattle.fields.specs.Lists.{All}

@@ -2,7 +2,7 @@
 --
 --   Weighing m ns w i at sum      the first i blocks end at the place `at` and weigh `sum`
 use Rattle.std.proofs.Common.{◌≡◌, ℕ, suc, ◌+◌, ◌-◌, ◌<◌, ◌≤◌, Bool, true, false, ◌≢◌, List, [], ◌∷◌, map, length, get_or, take, drop, sym, refl, ap, ◌∙◌, subst, add_assoc, zero-add, add-one, arith, length-drop, length-take-le, drop-cons}
-use lib.ListN.{length-map}
+use Rattle.std.proofs.lemmas.List.{length-map}
 use Rattle.std.proofs.lemmas.List.{drop_all}
 use Rattle.fields.specs.Field.{Ops, Laws}
 use Rattle.fields.specs.Meaning.{Meaning}

@@ -7,7 +7,7 @@ use fields::Kind;
 
 // Whether b is (c twisted) × a × (inverse of c) for some c other than 0, by trying every c.
 pub fn conjugate<K: Kind>(kind: &K, a: u8, b: u8) -> bool
-    ensures { let m = meaning kind.now in Tells result (Conjugate (ops m) (elem m a) (elem m b)) }
+    ensures { let m = K.meaning kind.now in Tells result (Conjugate (ops m) (elem m a) (elem m b)) }
 {
     for c in 1..kind.size() {
         let x = c as u8;

@@ -1,4 +1,6 @@
 // Rank and weight over any kind of field, conjugate parameters, and the minimum distance.
+#![tactic(auto)]
+
 mod conjugacy;
 mod distance;
 mod ranks;

@@ -9,7 +9,7 @@ use fields::Kind;
 
 // The rank of the symbols: the largest number of independent ones among them. There may be any number of symbols.
 pub fn rank<K: Kind>(kind: &K, symbols: &[u8]) -> usize
-    ensures { let m = meaning kind.now in IsRank (ops m) (elems m symbols.now) result }
+    ensures { let m = K.meaning kind.now in IsRank (ops m) (elems m symbols.now) result }
 {
     let mut form = Form::empty();
     let mut count = 0;
@@ -27,7 +27,7 @@ pub fn rank<K: Kind>(kind: &K, symbols: &[u8]) -> usize
 // The first place whose locator is a combination of the earlier ones with fixed coefficients; nothing exactly where the
 // locators are independent.
 pub fn dependent_at<K: Kind>(kind: &K, locators: &[u8]) -> Option<usize>
-    ensures { let m = meaning kind.now in let ls = locators.now in
+    ensures { let m = K.meaning kind.now in let ls = locators.now in
         MatchOption result (Independent (ops m) (elems m ls)) (λ i. Depends m ls i) }
 {
     let mut form = Form::empty();
@@ -44,7 +44,7 @@ pub fn dependent_at<K: Kind>(kind: &K, locators: &[u8]) -> Option<usize>
 
 // Each list of elements has one rank, and each word one weight: a theorem, which this contract asks for.
 pub fn ranks_stand<K: Kind>(kind: &K) -> u8
-    ensures { Ranked (ops (meaning kind.now)) }
+    ensures { Ranked (ops (K.meaning kind.now)) }
 {
     0
 }

@@ -34,7 +34,7 @@ struct Pivot {
 
 // a plus c times b, place by place.
 fn combined<K: Kind>(kind: &K, a: &Row, c: u8, b: &Row) -> Row
-    ensures { let m = meaning kind.now in
+    ensures { let m = K.meaning kind.now in
         row_of m result ≡ plus (ops m) (row_of m a.now) (scale (ops m) (elem m c) (row_of m b.now)) }
 {
     let mut out = *a;
@@ -48,7 +48,7 @@ fn combined<K: Kind>(kind: &K, a: &Row, c: u8, b: &Row) -> Row
 
 // The first place where a row is not 0; nothing where it is 0 everywhere.
 fn leading<K: Kind>(kind: &K, row: &Row) -> Option<Pivot>
-    ensures { let m = meaning kind.now in let h = row_of m row.now in
+    ensures { let m = K.meaning kind.now in let h = row_of m row.now in
         MatchOption result (All (Zero (ops m)) h) (λ t. PivotAt m h t.place t.inverse) }
 {
     for i in 0..WIDTH {
@@ -61,7 +61,7 @@ fn leading<K: Kind>(kind: &K, row: &Row) -> Option<Pivot>
 
 // The row less each row of the form times what the row has at that one's pivot.
 pub fn cleared<K: Kind>(kind: &K, form: &Form, row: &Row) -> Row
-    ensures { let m = meaning kind.now in
+    ensures { let m = K.meaning kind.now in
         (InForm m form.now → row_of m result ≡ clear (ops m) form.now.marks (rows_of m form.now) (row_of m row.now)) }
 {
     let mut left = *row;
@@ -78,7 +78,7 @@ pub fn cleared<K: Kind>(kind: &K, form: &Form, row: &Row) -> Row
 // Makes each row 0 at the place p by the row that has 1 there.
 fn sweep<K: Kind>(kind: &K, form: &mut Form, p: usize, by: &Row)
     requires { p < 8 }
-    ensures { let m = meaning kind.now in Swept m form.old p (row_of m by.now) form.new }
+    ensures { let m = K.meaning kind.now in Swept m form.old p (row_of m by.now) form.new }
 {
     for i in 0..WIDTH {
         let row = form.rows[i];
@@ -103,7 +103,7 @@ impl Form {
     // Puts in one row more, if it is not among the sums of the rows with fixed coefficients: then the answer is true, and
     // the new rows are reduced again and have the sums of the old ones and the row. Else nothing is changed.
     pub fn insert<K: Kind>(&mut self, kind: &K, row: &Row) -> bool
-        ensures { let m = meaning kind.now in let f = self.old in let h = row_of m row.now in
+        ensures { let m = K.meaning kind.now in let f = self.old in let h = row_of m row.now in
             (InForm m f → FixedRow (ops m) 8 h → Inserted m f h result self.new) }
     {
         let left = cleared(kind, self, row);

@@ -9,7 +9,7 @@ use fields::Kind;
 // The weight of a word in blocks of these lengths: the sum of the ranks of the blocks. Nothing where the lengths do not
 // sum to the number of symbols.
 pub fn weight<K: Kind>(kind: &K, lengths: &[u8], word: &[u8]) -> Option<usize>
-    ensures { let m = meaning kind.now in let ns = lengths.now in let w = word.now in
+    ensures { let m = K.meaning kind.now in let ns = lengths.now in let w = word.now in
         MatchOption result (total ns ≢ length w) (λ t. (total ns ≡ length w) × Weighs (ops m) (map (elems m) (cut ns w)) t) }
 {
     let mut at = 0;

@@ -1,6 +1,6 @@
 -- The candidate is weighed, and given where it is in reach.
 use Rattle.std.proofs.Common.{◌≡◌, ℕ, suc, ◌+◌, ◌*◌, ◌<◌, ◌≤◌, Bool, true, false, List, [], ◌∷◌, map, length, get_or, take, drop, sym, refl, ap, ◌∙◌, subst, arith}
-use lib.ListN.{length-map}
+use Rattle.std.proofs.lemmas.List.{length-map}
 use Rattle.std.proofs.lemmas.List.{take_all, take-map, drop-map, length-take, length-take-le}
 use Rattle.fields.specs.Lists.{All}
 use Rattle.fields.specs.Field.{plus}

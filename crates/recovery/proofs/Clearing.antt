@@ -6,7 +6,7 @@
 --   weave marks cs us                       one list with us at the marked places and cs at the others
 --   left_lawful                             the blocks that are left are lawful, with a place less for each column hint
 use Rattle.std.proofs.Common.{◌≡◌, suc, ◌+◌ as ◌+ℕ◌, max, Bool, true, false, List, [], ◌∷◌, map, length, sym, refl, ap, ◌∙◌, subst, arith}
-use lib.ListN.{length-map}
+use Rattle.std.proofs.lemmas.List.{length-map}
 use Rattle.fields.specs.Lists.{All}
 use Rattle.fields.specs.Field.{Ops, Laws, Zero, Fixed, plus, comb}
 use Rattle.fields.specs.Basics

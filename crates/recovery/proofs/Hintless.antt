@@ -5,7 +5,7 @@
 --   bare blocks ns w     blocks with symbols and without hints
 --   finds_bare           each message within the budget is the quotient
 use Rattle.std.proofs.Common.{◌≡◌, ℕ, suc, ◌+◌ as ◌+ℕ◌, ◌-◌, ◌*◌ as ◌*ℕ◌, ◌≤◌, Bool, false, List, [], ◌∷◌, ◌++◌, map, length, get_or, take, drop, replicate, sym, refl, ap, ◌∙◌, subst, ap₂, arith, take-append-drop}
-use lib.ListN.{length-map, length-replicate}
+use Rattle.std.proofs.lemmas.List.{length-map, length-replicate}
 use Rattle.std.proofs.lemmas.List.{length-drop, length-take-le, get_or_past}
 use Rattle.fields.specs.Lists.{All}
 use Rattle.fields.specs.Field.{Ops, Laws, plus}

@@ -7,7 +7,7 @@
 --   at_point             the rest of what the word has beyond f is the value of the joint polynomial, where the pair vanishes
 --   at_sites             so the values of the joint polynomial are spanned by as few elements as the full part weighs
 use Rattle.std.proofs.Common.{◌≡◌, ℕ, Bool, true, false, List, [], ◌∷◌, map, length, sym, refl, ap, ◌∙◌, subst, arith}
-use lib.ListN.{length-map}
+use Rattle.std.proofs.lemmas.List.{length-map}
 use Rattle.fields.specs.Lists.{All}
 use Rattle.fields.specs.Field.{Ops, Laws, Zero, Fixed, plus}
 use Rattle.fields.specs.Basics

@@ -2,7 +2,7 @@
 --
 --   HeldAll m ns bs gs     in each block, of 1 to 8 symbols, the form holds the hints
 use Rattle.std.proofs.Common.{◌≡◌, ℕ, suc, ◌+◌, ◌<◌, ◌≤◌, Bool, true, false, List, [], ◌∷◌, ◌++◌, map, length, get_or, take, drop, sym, refl, ap, ◌∙◌, subst, ap₂, arith, length-append}
-use lib.ListN.{length-map}
+use Rattle.std.proofs.lemmas.List.{length-map}
 use Rattle.std.proofs.lemmas.List.{take-map, drop-map, length-drop, length-take-le}
 use Rattle.fields.specs.Lists.{All}
 use Rattle.fields.specs.Field as field

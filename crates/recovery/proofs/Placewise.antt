@@ -1,6 +1,6 @@
 -- Lists of elements under sums and linear maps, place by place, and what spans them.
 use Rattle.std.proofs.Common.{◌≡◌, ℕ, suc, List, [], ◌∷◌, map, sym, refl, ap, ◌∙◌, subst}
-use lib.ListN.{length-map}
+use Rattle.std.proofs.lemmas.List.{length-map}
 use Rattle.fields.specs.Lists.{All}
 use Rattle.fields.specs.Field.{Ops, Laws, Fixed, plus, comb}
 use Rattle.fields.specs.Basics

@@ -6,7 +6,7 @@
 --   joined o p q u      the pair of p less q and u
 --   reencoded           pairs carried through the other spots, turned, are pairs carried through all
 use Rattle.std.proofs.Common.{◌≡◌, ℕ, suc, ◌+◌ as ◌+ℕ◌, ◌≤◌, ◌≢◌, List, [], ◌∷◌, ◌++◌, map, length, sym, refl, ap, ◌∙◌, subst, arith, length-append}
-use lib.ListN.{length-map}
+use Rattle.std.proofs.lemmas.List.{length-map}
 use Rattle.fields.specs.Lists.{All}
 use Rattle.fields.specs.Field.{Ops, Laws, plus, scale}
 use Rattle.fields.specs.Basics

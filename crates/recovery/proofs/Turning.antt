@@ -2,7 +2,7 @@
 --
 --   Turning m ps M f w k i out    out holds the points from k to i - 1 with their symbols, turned
 use Rattle.std.proofs.Common.{◌≡◌, ℕ, suc, ◌+◌, ◌<◌, ◌≤◌, List, [], ◌∷◌, ◌++◌, map, length, get_or, take, drop, sym, refl, ap, ◌∙◌, ap₂, append_assoc, append-nil, arith, length-append}
-use lib.ListN.{length-map}
+use Rattle.std.proofs.lemmas.List.{length-map}
 use Rattle.std.proofs.lemmas.List.{get_or-map, drop_more, drop_all, take_all, length-drop, length_push, map_push}
 use Rattle.fields.specs.Lists.{All}
 use Rattle.fields.specs.Meaning.{Meaning, clip}

@@ -5,7 +5,7 @@
 --   Leaving m f a k us vs start p out  the places before place p of one block that are left are behind start
 --   Gathering m ns bs k ps ys i at out the places of the blocks before block i that are left are in out
 use Rattle.std.proofs.Common.{◌≡◌, ℕ, ◌+◌, ◌<◌, ◌≤◌, true, false, List, [], ◌∷◌, ◌++◌, map, length, get_or, take, drop, sym, ap, ◌∙◌, append_assoc, append-nil, arith}
-use lib.ListN.{length-map}
+use Rattle.std.proofs.lemmas.List.{length-map}
 use Rattle.std.proofs.lemmas.List.{drop_more, drop_all, drop-drop, take_all, take-map, map-append}
 use Rattle.fields.specs.Meaning.{Meaning}
 use Rattle.fields.specs.Elements.{Elem, elem}

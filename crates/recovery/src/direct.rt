@@ -25,7 +25,7 @@ use skew::{Polynomial, Site, combine, left_quotient, pairs, product, value};
 // The polynomial with the symbols as its values at the points that the units belong to.
 fn rebuilt<K: Kind>(kind: &K, prepared: &Prepared, symbols: &[u8]) -> Polynomial
     requires { length symbols.now ≤ 24 }
-    ensures { let m = meaning kind.now in
+    ensures { let m = K.meaning kind.now in
         ((ps : List Point) → length symbols.now ≡ length ps → Units m ps (map coefficients prepared.now.units) → Rebuilt m ps symbols.now (coefficients result)) }
 {
     let mut out = Polynomial::empty();
@@ -45,7 +45,7 @@ fn other_sites<K: Kind>(
     word: &[u8],
 ) -> Spots
     requires { length word.now ≡ length (stops code.now.course) }
-    ensures { let m = meaning kind.now in let c = code.now in
+    ensures { let m = K.meaning kind.now in let c = code.now in
         ((M : List (Elem m)) → held prepared.now.values ≡ codes (word_of m c M)
         → spots m (sites_in result) ≡ map (turned (ops m) M (elems m (coefficients f.now))) (drop c.dimension (word_spots (pts m c) (elems m word.now)))) }
 {
@@ -73,7 +73,7 @@ fn candidate_by<K: Kind>(
     word: &[u8],
 ) -> Option<Polynomial>
     requires { length word.now ≡ length (stops code.now.course) }
-    ensures { let m = meaning kind.now in let c = code.now in
+    ensures { let m = K.meaning kind.now in let c = code.now in
         (LawfulCode m c → Prepares m c prepared.now
         → MatchOption result ⊥ (λ f. Candidate m c (replicate (length (held c.lengths)) (no_hints m)) (elems m word.now) (coefficients f))) }
 {
@@ -94,9 +94,9 @@ pub fn recover_by<K: Kind>(
     hints: &Hints,
     word: &[u8],
 ) -> Option<Recovery>
-    ensures spans { let m = meaning kind.now in let c = code.now in
+    ensures spans { let m = K.meaning kind.now in let c = code.now in
         (length word.now ≡ length (stops c.course) → SpansOnly m c (elems m word.now)) }
-    ensures exact { let m = meaning kind.now in let c = code.now in let w = elems m word.now in
+    ensures exact { let m = K.meaning kind.now in let c = code.now in let w = elems m word.now in
         (LawfulCode m c → Prepares m c prepared.now → length word.now ≡ length (stops c.course)
         → (gs : List (Given (Elem m))) → Holds m (held c.lengths) c.dimension hints.now gs
         → MatchOption result ((v : List (Elem m)) → ¬ InReach m c gs w v) (λ x. Recovered m c gs w x)) }

@@ -15,7 +15,7 @@ use skew::Point;
 
 // The row hints of one block, as points with its parameter, behind those that are there, as far as there is room.
 fn add_points<K: Kind>(kind: &K, form: &Form, parameter: u8, out: &mut Course)
-    ensures { let m = meaning kind.now in let f = form.now in
+    ensures { let m = K.meaning kind.now in let f = form.now in
         (InForm m f → places m (stops out.new) ≡ take 24 (places m (stops out.old) ++ hint_points m (elem m parameter) (rows_of m f))) }
 {
     for p in 0..8usize {
@@ -29,7 +29,7 @@ fn add_points<K: Kind>(kind: &K, form: &Form, parameter: u8, out: &mut Course)
 
 // The row hints of all blocks.
 pub fn row_points<K: Kind>(kind: &K, code: &Code, hints: &Hints) -> Course
-    ensures { let m = meaning kind.now in let ns = held code.now.lengths in let bs = hints.now.blocks in
+    ensures { let m = K.meaning kind.now in let ns = held code.now.lengths in let bs = hints.now.blocks in
         (((i : ℕ) → i < length ns → InForm m (slice_index_or bs i no_block).rows) → places m (stops result) ≡ take 24 (all_hint_points m ns bs (stops code.now.course))) }
 {
     let points = code.course.as_slice();

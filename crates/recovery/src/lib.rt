@@ -1,4 +1,6 @@
 // Exact decoding with row and column hints, over any kind of field.
+#![tactic(auto)]
+
 mod direct;
 mod killing;
 mod outcome;

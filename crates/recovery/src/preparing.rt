@@ -13,7 +13,7 @@ use skew::{Point, Polynomial, annihilator, interpolate};
 // The polynomial that is one at point j and zero at the others. Nothing for some points that are not lawful.
 fn unit_at<K: Kind>(kind: &K, points: &[Point], j: usize) -> Option<Polynomial>
     requires { (j < length points.now) × (length points.now ≤ 24) }
-    ensures { let m = meaning kind.now in let ps = points.now in MatchOption result (Unlawful m ps) (λ f. UnitAt m ps j (coefficients f)) }
+    ensures { let m = K.meaning kind.now in let ps = points.now in MatchOption result (Unlawful m ps) (λ f. UnitAt m ps j (coefficients f)) }
 {
     let mut row = [0; 24];
     row[j] = 1;
@@ -23,7 +23,7 @@ fn unit_at<K: Kind>(kind: &K, points: &[Point], j: usize) -> Option<Polynomial>
 
 // What belongs to a code: for a lawful one there always is something.
 pub fn prepare<K: Kind>(kind: &K, code: &Code) -> Option<Prepared>
-    ensures { let m = meaning kind.now in let c = code.now in (LawfulCode m c → MatchOption result ⊥ (λ p. Prepares m c p)) }
+    ensures { let m = K.meaning kind.now in let c = code.now in (LawfulCode m c → MatchOption result ⊥ (λ p. Prepares m c p)) }
 {
     let points = code.course.as_slice();
     let first = &points[0..code.dimension];

@@ -21,7 +21,7 @@ use skew::{Polynomial, annihilator, combine, left_quotient, pairs, product};
 
 // The polynomial with the opposite coefficients.
 fn negated<K: Kind>(kind: &K, f: &Polynomial) -> Polynomial
-    ensures { let m = meaning kind.now in coefficients result ≡ codes (map (ops m).neg (elems m (coefficients f.now))) }
+    ensures { let m = K.meaning kind.now in coefficients result ≡ codes (map (ops m).neg (elems m (coefficients f.now))) }
 {
     let minus = kind.opposite(1);
     combine(kind, minus, f, 0, &Polynomial::empty())
@@ -30,7 +30,7 @@ fn negated<K: Kind>(kind: &K, f: &Polynomial) -> Polynomial
 // The only message whose codeword can be in reach: there always is one.
 fn candidate<K: Kind>(kind: &K, code: &Code, hints: &Hints, word: &[u8]) -> Option<Polynomial>
     requires { length word.now ≡ length (stops code.now.course) }
-    ensures { let m = meaning kind.now in let c = code.now in
+    ensures { let m = K.meaning kind.now in let c = code.now in
         (LawfulCode m c → (gs : List (Given (Elem m))) → Holds m (held c.lengths) c.dimension hints.now gs
         → MatchOption result ⊥ (λ f. Candidate m c gs (elems m word.now) (coefficients f))) }
 {
@@ -47,7 +47,7 @@ fn candidate<K: Kind>(kind: &K, code: &Code, hints: &Hints, word: &[u8]) -> Opti
 // The word less the codeword, as far as both reach.
 fn difference<K: Kind>(kind: &K, word: &[u8], codeword: &Symbols) -> Symbols
     requires { length (held codeword.now) ≡ length word.now }
-    ensures { let m = meaning kind.now in
+    ensures { let m = K.meaning kind.now in
         held result ≡ take 24 (codes (plus (ops m) (elems m word.now) (map (ops m).neg (elems m (held codeword.now))))) }
 {
     let mut out = Symbols::empty();
@@ -69,7 +69,7 @@ pub fn weighed<K: Kind>(
     message: &Polynomial,
 ) -> Option<Recovery>
     requires { length word.now ≡ length (stops code.now.course) }
-    ensures { let m = meaning kind.now in let c = code.now in let w = elems m word.now in
+    ensures { let m = K.meaning kind.now in let c = code.now in let w = elems m word.now in
         (LawfulCode m c → (gs : List (Given (Elem m))) → Holds m (held c.lengths) c.dimension hints.now gs → Candidate m c gs w (coefficients message.now)
         → MatchOption result ((v : List (Elem m)) → ¬ InReach m c gs w v) (λ x. Recovered m c gs w x)) }
 {
@@ -94,9 +94,9 @@ pub fn weighed<K: Kind>(
 // The codeword in reach of a word under hints, its message, and its difference split with least full errors. Nothing where no codeword
 // is in reach, and for a word of another length.
 pub fn recover<K: Kind>(kind: &K, code: &Code, hints: &Hints, word: &[u8]) -> Option<Recovery>
-    ensures spans { let m = meaning kind.now in let c = code.now in
+    ensures spans { let m = K.meaning kind.now in let c = code.now in
         (length word.now ≡ length (stops c.course) → SpansOnly m c (elems m word.now)) }
-    ensures exact { let m = meaning kind.now in let c = code.now in let w = elems m word.now in
+    ensures exact { let m = K.meaning kind.now in let c = code.now in let w = elems m word.now in
         (LawfulCode m c → length word.now ≡ length (stops c.course) → (gs : List (Given (Elem m))) → Holds m (held c.lengths) c.dimension hints.now gs
         → MatchOption result ((v : List (Elem m)) → ¬ InReach m c gs w v) (λ x. Recovered m c gs w x)) }
 {

@@ -42,7 +42,7 @@ fn add_sites<K: Kind>(
     requires some { 1 ≤ length points.now }
     requires few { length points.now ≤ 8 }
     requires same { length symbols.now ≡ length points.now }
-    ensures { let m = meaning kind.now in let f = columns.now in
+    ensures { let m = K.meaning kind.now in let f = columns.now in
         (InForm m f → spots m (sites_in out.new)
         ≡ take 24 (spots m (sites_in out.old) ++ block_spots m f (length points.now) (elems m (coefficients killer.now)) points.now symbols.now)) }
 {
@@ -72,7 +72,7 @@ pub fn left_sites<K: Kind>(
     killer: &Polynomial,
 ) -> Spots
     requires { length word.now ≡ length (stops code.now.course) }
-    ensures { let m = meaning kind.now in let ns = held code.now.lengths in let bs = hints.now.blocks in
+    ensures { let m = K.meaning kind.now in let ns = held code.now.lengths in let bs = hints.now.blocks in
         (((i : ℕ) → i < length ns → InForm m (slice_index_or bs i no_block).columns) → spots m (sites_in result)
         ≡ take 24 (all_spots m ns bs (elems m (coefficients killer.now)) (stops code.now.course) word.now)) }
 {

@@ -2,6 +2,8 @@
 // hints after their number, each a block and an element, and the column hints after theirs, each a block, a length and as many
 // coefficients. Prints the verdict on each hint, and what is recovered. Then every word of the two small codes is recovered. It is held to
 // what an unrelated computation printed (reference/recovery.py).
+#![tactic(auto)]
+
 use answers::{answer, verdict};
 use brought::Gf256Over16;
 use codes::{Code, set_up};

@@ -1,6 +1,8 @@
 // A journey through the codec, one step after the other, each printed. The sheet of a code over the integers modulo 13 is read, one
 // message is encoded in the code, the word and a damaged one are weighed and checked, and damaged words are recovered, without hints and
 // with them.
+#![tactic(auto)]
+
 use codes::{Code, Symbols, dual_locators, dual_sheet, encode, message, set_up, syndromes};
 use fields::{Kind, Mod13};
 use ranks::weight;

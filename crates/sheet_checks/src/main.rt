@@ -1,5 +1,7 @@
 // Reads cases from the input, one to a line: the kind number that is asked for, and then the bytes of a sheet, all in decimal.
 // Prints what the reader of sheets answers. It is held to what an unrelated computation printed (reference/sheets.py).
+#![tactic(auto)]
+
 use sheets::{Section, read_sheet};
 use std::alloc::Global;
 use std::io;

@@ -1,7 +1,7 @@
 -- Why each step of the reader answers as it promises.
 --     bytes, at      the whole of the bytes, and the place at which a step reads
---     ..-missing     the bytes end where a step wants one more
---     ..-limit       the byte that is there breaks its limit
+--     .._missing     the bytes end where a step wants one more
+--     .._limit       the byte that is there breaks its limit
 --     room           the most that the next length may be
 use Rattle.std.proofs.Common.{◌≡◌, ℕ, ◌+◌, ◌-◌, ◌<◌, ◌≤◌, min, ◌≢◌, ◌⊎◌, List, [], ◌∷◌, ◌++◌, length, get_or, take, drop, sum, sym, ap, ◌∙◌, subst, inl, inr, not-suc-le-zero, arith, take-add}
 use Rattle.std.proofs.lemmas.List.{take_all, take-append-drop, length-take-le, length-drop, append_assoc, get_or-drop, same_from_push, take_more, drop_more}

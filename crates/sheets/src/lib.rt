@@ -1,4 +1,6 @@
 // The sheet that describes a code: its reader, and the refusals of every layer.
+#![tactic(auto)]
+
 mod faults;
 mod sections;
 mod sheets;

@@ -4,7 +4,7 @@
 --   lift_is, cross_is      what a step makes of the pivot and of the other pair, in elements, and how long it is
 --   stays, firsts, seconds the three turns of a step keep what is held
 use Rattle.std.proofs.Common.{◌≡◌, ℕ, suc, ◌+◌, ◌<◌, ◌≤◌, max, ◌≢◌, ◌⊎◌, List, [], ◌∷◌, ◌++◌, length, get_or, take, sym, ap, ◌∙◌, subst, inl, inr, add-one, arith, length-append}
-use lib.ListN.{length-map}
+use Rattle.std.proofs.lemmas.List.{length-map}
 use Rattle.std.proofs.lemmas.List.{take_more, take_all, map-append, length-take-le}
 use Rattle.fields.specs.Field.{plus, scale}
 use Rattle.fields.specs.Field as field

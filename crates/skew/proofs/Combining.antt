@@ -3,7 +3,8 @@
 --   Combining    the sum of two multiples, after i coefficients
 --   Raising      x - c times what stands there, after i coefficients; `below` is the twisted coefficient below the i-th
 use Rattle.std.proofs.Common.{◌≡◌, ℕ, suc, ◌+◌, ◌<◌, ◌≤◌, max, List, [], ◌∷◌, ◌++◌, map, length, get_or, take, set, sym, refl, ap, ◌∙◌, add-one, arith}
-use lib.ListN.{length-map, get_or-eq_default}
+use Rattle.std.proofs.lemmas.List.{length-map}
+use Rattle.std.proofs.Math.ListN.{get_or-eq_default}
 use Rattle.std.proofs.lemmas.List.{take_all, length-take, get_or-take}
 use Rattle.fields.specs.Field.{plus, scale}
 use Rattle.fields.specs.Field as field

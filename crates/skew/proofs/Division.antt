@@ -4,7 +4,7 @@
 --   coefficient_more, coefficient_same, coefficient_null    what one coefficient of q adds to p × q
 --   quotient_only                                           no two quotients agree with one dividend
 use Rattle.std.proofs.Common.{◌≡◌, ℕ, suc, ◌+◌ as ◌+ℕ◌, ◌-◌, ◌<◌, ◌≤◌, ◌≢◌, List, length, sym, ap, ◌∙◌, inl, inr, arith}
-use lib.ListN.{get_or-eq_default}
+use Rattle.std.proofs.Math.ListN.{get_or-eq_default}
 use Rattle.std.proofs.lemmas.Bool.{cases_lt}
 use Rattle.fields.specs.Field.{Ops, Laws}
 use Rattle.fields.specs.Basics

@@ -2,7 +2,7 @@
 --
 --   Linear T     T keeps sums, and products with a fixed element
 use Rattle.std.proofs.Common.{◌≡◌, ℕ, suc, List, [], ◌∷◌, map, sym, refl, ap, ◌∙◌}
-use mathlib.Core.Path.{fun_ext}
+use Rattle.std.proofs.Math.Path.{fun_ext}
 use Rattle.fields.specs.Lists.{All}
 use Rattle.fields.specs.Field.{Ops, Laws, Fixed, plus, scale, comb}
 use Rattle.fields.specs.Basics

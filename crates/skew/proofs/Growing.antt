@@ -2,7 +2,7 @@
 --
 --   Growing m ps f    f is in codes, monic, of degree at most the number of points, and vanishes at each
 use Rattle.std.proofs.Common.{◌≡◌, ℕ, suc, ◌+◌, ◌-◌, ◌<◌, ◌≤◌, Bool, true, false, cond, ltb, ◌≢◌, List, [], ◌∷◌, ◌++◌, length, get_or, take, Some, None, Option, sym, refl, ap, ◌∙◌, subst, arith, MatchOption}
-use lib.ListN.{length-map}
+use Rattle.std.proofs.lemmas.List.{length-map}
 use Rattle.std.proofs.lemmas.List.{take_more, take_all, map-append, length_push, length-take-le}
 use Rattle.std.proofs.lemmas.Bool.{ltb-true, ltb-false, cond-true}
 use Rattle.fields.specs.Lists.{All}

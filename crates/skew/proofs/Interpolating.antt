@@ -2,7 +2,7 @@
 --
 --   Stepping m ps vs i f g    after i points: f has the values wanted so far, and g is monic and vanishes at the points so far
 use Rattle.std.proofs.Common.{◌≡◌, ℕ, ◌+◌, ◌<◌, ◌≤◌, ◌≢◌, List, [], ◌∷◌, ◌++◌, map, length, get_or, take, drop, Some, None, sym, refl, ap, ◌∙◌, subst, arith, take-append-drop}
-use lib.ListN.{length-map}
+use Rattle.std.proofs.lemmas.List.{length-map}
 use Rattle.std.proofs.lemmas.List.{take_more, take_all, map-append, length-take-le}
 use Rattle.fields.specs.Lists.{All}
 use Rattle.fields.specs.Field.{plus, scale}

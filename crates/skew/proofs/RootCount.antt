@@ -4,7 +4,7 @@
 -- x - c leaves a quotient with a coefficient less, whose roots are the images of the other locators under `less c`; and these are
 -- lawful again, since what `less c` takes to zero is a fixed multiple of b in b's own block and makes parameters conjugate in another.
 use Rattle.std.proofs.Common.{◌≡◌, ℕ, suc, ◌≤◌, ◌≢◌, List, [], ◌∷◌, map, length, sym, refl, ap, ◌∙◌, subst, arith}
-use lib.ListN.{length-map}
+use Rattle.std.proofs.lemmas.List.{length-map}
 use Rattle.fields.specs.Lists.{All}
 use Rattle.fields.specs.Field.{Ops, Laws, Zero, Fixed, comb}
 use Rattle.fields.specs.Basics

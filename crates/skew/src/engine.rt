@@ -29,7 +29,7 @@ fn start() -> TwoPairs
 
 // The values of f and g at one locator; both take the same powers of it.
 fn values<K: Kind>(kind: &K, f: &[u8], g: &[u8], parameter: u8, locator: u8) -> (u8, u8)
-    ensures { let m = meaning kind.now in (result.0 ≡ value_code m f.now parameter locator) × (result.1 ≡ value_code m g.now parameter locator) }
+    ensures { let m = K.meaning kind.now in (result.0 ≡ value_code m f.now parameter locator) × (result.1 ≡ value_code m g.now parameter locator) }
 {
     let n = f.len().min(g.len());
     let mut u = 0;
@@ -47,7 +47,7 @@ fn values<K: Kind>(kind: &K, f: &[u8], g: &[u8], parameter: u8, locator: u8) -> 
 
 // The values of both pairs at a site.
 fn worths<K: Kind>(kind: &K, s: &TwoPairs, site: Site) -> (u8, u8)
-    ensures { let m = meaning kind.now in (result.0 ≡ (worth (ops m) (two m s.now.first) (spot m site)).code) × (result.1 ≡ (worth (ops m) (two m s.now.second) (spot m site)).code) }
+    ensures { let m = K.meaning kind.now in (result.0 ≡ (worth (ops m) (two m s.now.first) (spot m site)).code) × (result.1 ≡ (worth (ops m) (two m s.now.second) (spot m site)).code) }
 {
     let (a0, b0) = values(
         kind,
@@ -68,7 +68,7 @@ fn worths<K: Kind>(kind: &K, s: &TwoPairs, site: Site) -> (u8, u8)
 
 // A c for which x - c takes v to zero at the parameter.
 fn factor<K: Kind>(kind: &K, parameter: u8, v: u8) -> u8
-    ensures { let m = meaning kind.now in Root m parameter v result }
+    ensures { let m = K.meaning kind.now in Root m parameter v result }
 {
     match root(kind, parameter, v) {
         Some(c) => c,
@@ -96,7 +96,7 @@ fn turn(x: u8, y: u8, a: usize, b: usize, k: usize) -> Turn
 
 // The other pair loses its value y, and the pivot, whose value is x, is raised so that it loses its own.
 fn step<K: Kind>(kind: &K, parameter: u8, pivot: &mut Pair, x: u8, other: &mut Pair, y: u8)
-    ensures { let m = meaning kind.now in (Raised m parameter x pivot.old pivot.new) × (Crossed m x other.old y pivot.old other.new) }
+    ensures { let m = K.meaning kind.now in (Raised m parameter x pivot.old pivot.new) × (Crossed m x other.old y pivot.old other.new) }
 {
     let minus = kind.opposite(y);
     other.q0.cross(kind, x, minus, &pivot.q0);
@@ -109,7 +109,7 @@ fn step<K: Kind>(kind: &K, parameter: u8, pivot: &mut Pair, x: u8, other: &mut P
 // One site more: the pair that is not the pivot loses its value there, and the pivot is raised.
 fn advance<K: Kind>(kind: &K, k: usize, site: Site, s: &mut TwoPairs)
     requires { (s.old.a ≤ 24) × (s.old.b ≤ 24) }
-    ensures { let m = meaning kind.now in ((ps : List (Spot (Elem m))) → length ps < 24 → Held m k ps s.old → Held m k (ps ++ spot m site ∷ []) s.new) }
+    ensures { let m = K.meaning kind.now in ((ps : List (Spot (Elem m))) → length ps < 24 → Held m k ps s.old → Held m k (ps ++ spot m site ∷ []) s.new) }
 {
     let (x, y) = worths(kind, s, site);
     match turn(x, y, s.a, s.b, k) {
@@ -130,7 +130,7 @@ fn advance<K: Kind>(kind: &K, k: usize, site: Site, s: &mut TwoPairs)
 // a + b is at most the number of sites. No polynomial has more coefficients than there are sites, plus one. Nothing for
 // more than 24 sites.
 pub fn pairs<K: Kind>(kind: &K, k: usize, sites: &[Site]) -> Option<TwoPairs>
-    ensures { let m = meaning kind.now in let ps = sites.now in
+    ensures { let m = K.meaning kind.now in let ps = sites.now in
         MatchOption result (24 < length ps) (λ s. (length ps ≤ 24) × Held m k (spots m ps) s) }
 {
     if sites.len() > MOST {

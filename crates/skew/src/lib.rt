@@ -1,4 +1,6 @@
 // Skew polynomials over a kind of field. Coefficients stand lowest first.
+#![tactic(auto)]
+
 ghost use Rattle.std.specs.Prelude.{◌≡◌};
 ghost use Rattle.fields.specs.Elements.{ops};
 ghost use Rattle.skew.specs.Values.{value_code, eval_code};
@@ -27,8 +29,8 @@ pub use quotients::left_quotient;
 // The value of the polynomial f at a locator with a parameter: the sum over i of f_i × (locator twisted i times) ×
 // N(i, parameter), counted from 0. `steps` says the same by the recursion that proofs use.
 pub fn value<K: Kind>(kind: &K, f: &[u8], parameter: u8, locator: u8) -> u8
-    ensures sum { let m = meaning kind.now in result ≡ value_code m f.now parameter locator }
-    ensures steps { let m = meaning kind.now in result ≡ eval_code m f.now parameter locator }
+    ensures sum { let m = K.meaning kind.now in result ≡ value_code m f.now parameter locator }
+    ensures steps { let m = K.meaning kind.now in result ≡ eval_code m f.now parameter locator }
 {
     let mut total = 0;
     let mut x = locator;
@@ -41,7 +43,7 @@ pub fn value<K: Kind>(kind: &K, f: &[u8], parameter: u8, locator: u8) -> u8
 
 // A polynomial with at most n coefficients that vanishes at n lawful locators is zero: a theorem, which this contract asks for.
 pub fn root_count<K: Kind>(kind: &K) -> u8
-    ensures { RootCount (ops (meaning kind.now)) }
+    ensures { RootCount (ops (K.meaning kind.now)) }
 {
     0
 }

@@ -22,7 +22,7 @@ fn correct<K: Kind>(
     point: Point,
     wanted: u8,
 ) -> Option<Polynomial>
-    ensures { let m = meaning kind.now in let f = coefficients f.entry.now in let g = coefficients base.now in
+    ensures { let m = K.meaning kind.now in let f = coefficients f.entry.now in let g = coefficients base.now in
         MatchOption result (Vanishes (ops m) (elems m g) (place m point)) (λ h. Corrected m f g point wanted (coefficients h)) }
 {
     let here = value(kind, f.as_slice(), point.parameter, point.locator);
@@ -47,7 +47,7 @@ fn correct<K: Kind>(
 // points there is always one, and no other. Nothing for more than 24 points, for more or fewer values than points, and
 // for some points that are not lawful.
 pub fn interpolate<K: Kind>(kind: &K, points: &[Point], values: &[u8]) -> Option<Polynomial>
-    ensures { let m = meaning kind.now in let ps = points.now in let vs = values.now in
+    ensures { let m = K.meaning kind.now in let ps = points.now in let vs = values.now in
         MatchOption result ((24 < length ps) ⊎ ((length vs ≢ length ps) ⊎ Unlawful m ps)) (λ f. Interpolated m ps vs (coefficients f)) }
 {
     if points.len() > MOST {

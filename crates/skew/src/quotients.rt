@@ -18,7 +18,7 @@ struct Lead {
 
 // Nothing where the polynomial is zero.
 fn leading<K: Kind>(kind: &K, f: &Polynomial) -> Option<Lead>
-    ensures { let m = meaning kind.now in let f = coefficients f.entry.now in
+    ensures { let m = K.meaning kind.now in let f = coefficients f.entry.now in
         MatchOption result (All (Zero (ops m)) (elems m f)) (λ t. Leads m f t.degree t.inverse) }
 {
     let mut i = f.len();
@@ -33,7 +33,7 @@ fn leading<K: Kind>(kind: &K, f: &Polynomial) -> Option<Lead>
 
 // The element that n twists take to x.
 fn untwisted<K: Kind>(kind: &K, n: usize, x: u8) -> u8
-    ensures { let m = meaning kind.now in Untwisted m n x result }
+    ensures { let m = K.meaning kind.now in Untwisted m n x result }
 {
     let mut y = code(kind, x);
     for i in 0..n {
@@ -45,7 +45,7 @@ fn untwisted<K: Kind>(kind: &K, n: usize, x: u8) -> u8
 // Takes divisor × (c times the j-th power) off the rest: coefficient i of the divisor meets c twisted i times.
 fn subtract<K: Kind>(kind: &K, rest: &mut Polynomial, divisor: &Polynomial, j: usize, c: u8)
     requires { j ≤ 48 }
-    ensures { let m = meaning kind.now in Subtracted m (coefficients divisor.now) j c (coefficients rest.old) (coefficients rest.new) }
+    ensures { let m = K.meaning kind.now in Subtracted m (coefficients divisor.now) j c (coefficients rest.old) (coefficients rest.new) }
 {
     let mut x = c;
     for i in 0..divisor.len() {
@@ -66,7 +66,7 @@ pub fn left_quotient<K: Kind>(
     divisor: &Polynomial,
     k: usize,
 ) -> Option<Polynomial>
-    ensures { let m = meaning kind.now in let n = coefficients dividend.now in let p = coefficients divisor.now in
+    ensures { let m = K.meaning kind.now in let n = coefficients dividend.now in let p = coefficients divisor.now in
         MatchOption result (Undivided m p k) (λ f. Divided m n p k (coefficients f)) }
 {
     let Some(top) = leading(kind, divisor) else {

@@ -1,5 +1,7 @@
 // Values, products, interpolation, quotients, annihilators and pairs over every kind and its mirror, on numbers from a fixed
 // generator. What it prints is held to what an unrelated computation printed (reference/skew.py).
+#![tactic(auto)]
+
 ghost use Rattle.std.specs.Prelude.{◌≤◌};
 
 use brought::Gf256Over16;

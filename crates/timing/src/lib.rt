@@ -1,4 +1,6 @@
 // What C calls to time recovery: many words of one code, under the same hints.
+#![tactic(auto)]
+
 use brought::Gf256Over16;
 use codes::{Code, set_up};
 use fields::{Gf16, Gf81, Gf256, Kind, Mirror, Mod13};

@@ -1,5 +1,7 @@
 // A journey through the codec, one step after the other, each printed. Today: the sheet of a code over the integers modulo 13 is
 // read, one message is encoded in the code, and the word and a damaged one are weighed and checked.
+#![tactic(auto)]
+
 use codes::{Code, Symbols, dual_locators, dual_sheet, encode, message, set_up, syndromes};
 use fields::{Kind, Mod13};
 use ranks::weight;

@@ -9,7 +9,7 @@ use fields::Kind;
 impl Polynomial {
     // Becomes c times itself plus d times g, as long as the longer of the two.
     pub fn cross<K: Kind>(&mut self, kind: &K, c: u8, d: u8, g: &Polynomial)
-        ensures { let m = meaning kind.now in coefficients self.new ≡ codes (combined m c (coefficients self.old) d (coefficients g.now)) }
+        ensures { let m = K.meaning kind.now in coefficients self.new ≡ codes (combined m c (coefficients self.old) d (coefficients g.now)) }
     {
         let n = self.len.max(g.len);
         for i in 0..n {
@@ -23,7 +23,7 @@ impl Polynomial {
 
     // Is multiplied from the left by x - c; what is past the 48th coefficient is cut off.
     pub fn raise<K: Kind>(&mut self, kind: &K, c: u8)
-        ensures { let m = meaning kind.now in coefficients self.new ≡ take 48 (codes (raised m c (coefficients self.old))) }
+        ensures { let m = K.meaning kind.now in coefficients self.new ≡ take 48 (codes (raised m c (coefficients self.old))) }
     {
         let d = kind.opposite(c);
         let mut below = 0;
@@ -39,7 +39,7 @@ impl Polynomial {
 
     // Gets f × (c times the j-th power) added, as far as it reaches: coefficient i of f meets c twisted i times.
     pub fn add<K: Kind>(&mut self, kind: &K, f: &Polynomial, j: usize, c: u8)
-        ensures { let m = meaning kind.now in Added m (coefficients f.now) j c (coefficients self.old) (coefficients self.new) }
+        ensures { let m = K.meaning kind.now in Added m (coefficients f.now) j c (coefficients self.old) (coefficients self.new) }
     {
         let n = f.len.min(self.len.saturating_sub(j));
         let mut x = c;

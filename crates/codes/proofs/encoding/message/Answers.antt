@@ -7,25 +7,25 @@ use Rattle.codes.proofs.Reading.{clear_none, clear_more, no_values, no_message, 
 use Rattle.codes.proofs.encoding.message.Goals as goal
 
 pub loop-i-init : goal.loop-i-init
-loop-i-init g c = clear_none (coefficients c.in-ok-f.f) c.args.code.now.dimension
+loop-i-init g c = clear_none (coefficients c.in_ok-f.f) c.args.code.now.dimension
 
 pub loop-i-preserved : goal.loop-i-preserved
 loop-i-preserved g c = clear_more c.loop-i.invariant c.get.ensures c.if-get-ne0.false
 
-pub returns-in-err-f : goal.returns-in-err-f
-returns-in-err-f g c =
+pub returns-in_err-f : goal.returns-in_err-f
+returns-in_err-f g c =
     let few : length (stops c.args.code.now.course) ≤ 24 = omega (arith, length-take c.args.code.now.course.len c.args.code.now.course.cells, c.args.code.now.course.fits) in
     simp c.from-residual.ensures
-    (no_values (g.met.K.Kind.lawful c.args.kind.now) c.args.code.now c.args.word.now few (rw c.as-slice-points.ensures at c.in-err-f.ensures))
+    (no_values (g.met.K.Kind.lawful c.args.kind.now) c.args.code.now c.args.word.now few (rw c.as-slice-points.ensures at c.in_err-f.ensures))
 
 pub returns-then-get-ne0 : goal.returns-then-get-ne0
 returns-then-get-ne0 g c =
-    let has = subst (λ ps. Interpolated (g.K.Kind.meaning c.args.kind.now) ps c.args.word.now (coefficients c.in-ok-f.f)) c.as-slice-points.ensures c.in-ok-f.ensures in
-    inr (no_message (g.met.K.Kind.lawful c.args.kind.now) c.args.code.now c.args.word.now (coefficients c.in-ok-f.f) has c.loop-i.auto.i c.get.ensures c.if-get-ne0.true)
+    let has = subst (λ ps. Interpolated (g.K.Kind.meaning c.args.kind.now) ps c.args.word.now (coefficients c.in_ok-f.f)) c.as-slice-points.ensures c.in_ok-f.ensures in
+    inr (no_message (g.met.K.Kind.lawful c.args.kind.now) c.args.code.now c.args.word.now (coefficients c.in_ok-f.f) has c.loop-i.auto.i c.get.ensures c.if-get-ne0.true)
 
 pub returns : goal.returns
 returns g c =
     let few : length (stops c.args.code.now.course) ≤ 24 = omega (arith, length-take c.args.code.now.course.len c.args.code.now.course.cells, c.args.code.now.course.fits) in
-    let has = subst (λ ps. Interpolated (g.K.Kind.meaning c.args.kind.now) ps c.args.word.now (coefficients c.in-ok-f.f)) c.as-slice-points.ensures c.in-ok-f.ensures in
-    read (g.met.K.Kind.lawful c.args.kind.now) c.args.code.now c.args.word.now (coefficients c.in-ok-f.f) has (coefficients c.resized.result) c.resized.ensures few
+    let has = subst (λ ps. Interpolated (g.K.Kind.meaning c.args.kind.now) ps c.args.word.now (coefficients c.in_ok-f.f)) c.as-slice-points.ensures c.in_ok-f.ensures in
+    read (g.met.K.Kind.lawful c.args.kind.now) c.args.code.now c.args.word.now (coefficients c.in_ok-f.f) has (coefficients c.resized.result) c.resized.ensures few
     (λ j h k. c.loop-i.invariant.zeros j h (omega (arith, ap length c.as-slice-points.ensures, c.loop-i-test.false)))

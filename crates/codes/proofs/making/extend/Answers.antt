@@ -1,5 +1,5 @@
 use Rattle.std.proofs.Common.{◌++◌, map, take, sym, ap, ◌∙◌, arith}
-use lib.ListN.{length-map}
+use Rattle.std.proofs.lemmas.List.{length-map}
 use Rattle.std.proofs.lemmas.List.{take_all, length-take, get_or-map}
 use Rattle.codes.specs.Holdings.{stops}
 use Rattle.codes.specs.Fitness.{pointed}

@@ -11,13 +11,13 @@ returns-in-Some g c =
 
 pub returns-in-Some-first-outside : goal.returns-in-Some-first-outside
 returns-in-Some-first-outside g c =
-    unfit_locator (g.K.Kind.meaning c.args.kind.now) c.args.sheet c.requires.laid c.bytes-parameters.ensures c.in-default.ensures c.bytes-locators.ensures
+    unfit_locator (g.K.Kind.meaning c.args.kind.now) c.args.sheet c.requires.laid c.bytes-parameters.ensures c.in_default.ensures c.bytes-locators.ensures
     c.in-Some-first-outside.ensures c.offset-in-Some-first-outside.ensures c.fault-in-Some-first-outside.ensures
 
 pub returns-in-Some-first-related : goal.returns-in-Some-first-related
 returns-in-Some-first-related g c =
-    unfit_related (g.K.Kind.meaning c.args.kind.now) c.args.sheet c.requires.laid c.bytes-parameters.ensures c.in-default.ensures c.bytes-locators.ensures
-    c.in-default-first-outside.ensures c.in-Some-first-related.ensures c.offset-in-Some-first-related.ensures c.fault-in-Some-first-related.ensures
+    unfit_related (g.K.Kind.meaning c.args.kind.now) c.args.sheet c.requires.laid c.bytes-parameters.ensures c.in_default.ensures c.bytes-locators.ensures
+    c.in_default-first-outside.ensures c.in-Some-first-related.ensures c.offset-in-Some-first-related.ensures c.fault-in-Some-first-related.ensures
 
 pub gather-requires : goal.gather-requires
 gather-requires g c =
@@ -30,19 +30,19 @@ gather-requires g c =
       near = omega (arith, c.offset-2.ensures, locators_offset c.args.sheet c.requires.laid, w.opens.blocks.1, w.as-many-parameters);
     }
 
-pub returns-in-err-course : goal.returns-in-err-course
-returns-in-err-course g c =
+pub returns-in_err-course : goal.returns-in_err-course
+returns-in_err-course g c =
     let p = err_from_is_err_and c.from-residual.result c.from-residual.ensures.1 in
     rw (p.1, p.2)
-    (unfit_dependent (g.K.Kind.meaning c.args.kind.now) c.args.sheet c.requires.laid c.bytes-lengths.ensures c.bytes-parameters.ensures c.in-default.ensures c.bytes-locators.ensures
-    c.in-default-first-outside.ensures c.in-default-first-related.ensures c.in-err-course.ensures c.offset-2.ensures)
+    (unfit_dependent (g.K.Kind.meaning c.args.kind.now) c.args.sheet c.requires.laid c.bytes-lengths.ensures c.bytes-parameters.ensures c.in_default.ensures c.bytes-locators.ensures
+    c.in_default-first-outside.ensures c.in_default-first-related.ensures c.in_err-course.ensures c.offset-2.ensures)
 
 pub returns : goal.returns
 returns g c =
     made (g.met.K.Kind.lawful c.args.kind.now) c.args.sheet _ c.requires.whole c.bytes-lengths.ensures c.bytes-parameters.ensures c.bytes-locators.ensures
-    c.in-default.ensures c.in-default-first-related.ensures c.in-ok-course.ensures c.copied.ensures refl
+    c.in_default.ensures c.in_default-first-related.ensures c.in_ok-course.ensures c.copied.ensures refl
 
-pub invariant-of-result : goal.invariant-of-result
-invariant-of-result g c =
-    within c.args.sheet c.in-ok-course.course c.copied.result c.requires.whole c.bytes-lengths.ensures c.bytes-parameters.ensures c.bytes-locators.ensures
-    c.in-ok-course.ensures c.copied.ensures
+pub invariant_of-result : goal.invariant_of-result
+invariant_of-result g c =
+    within c.args.sheet c.in_ok-course.course c.copied.result c.requires.whole c.bytes-lengths.ensures c.bytes-parameters.ensures c.bytes-locators.ensures
+    c.in_ok-course.ensures c.copied.ensures

@@ -1,5 +1,5 @@
 use Rattle.std.proofs.Common.{◌∙◌, arith}
-use lib.ListN.{length-map}
+use Rattle.std.proofs.lemmas.List.{length-map}
 use Rattle.fields.specs.Elements.{elem, elems}
 use Rattle.codes.specs.Holdings.{held}
 use Rattle.codes.specs.DualAnswers.{advanced}

@@ -1,5 +1,5 @@
 use Rattle.std.proofs.Common.{[], map, take, sym, ap, ◌∙◌, arith}
-use lib.ListN.{length-map}
+use Rattle.std.proofs.lemmas.List.{length-map}
 use Rattle.std.proofs.lemmas.List.{take_all, get_or-map}
 use Rattle.skew.specs.declared.points.Point.{Point}
 use Rattle.codes.proofs.Filling.{appended_more}

@@ -16,8 +16,8 @@ loop-x-preserved g c =
       | else-more w ↦ subst (Counting l xs c.insert-more.new.self) (sym w.count-is) (k.1 w.if-more.false)
     ]
 
-pub overflow-add-count : goal.overflow-add-count
-overflow-add-count g c = omega (arith, c.loop-x-test.true, c.loop-x.invariant.few, length-take-le c.loop-x.x-index c.args.symbols.now (omega arith))
+pub overflow_add-count : goal.overflow_add-count
+overflow_add-count g c = omega (arith, c.loop-x-test.true, c.loop-x.invariant.few, length-take-le c.loop-x.x-index c.args.symbols.now (omega arith))
 
 pub returns : goal.returns
 returns g c = counting_ends (g.met.K.Kind.lawful c.args.kind.now) c.args.symbols.now c.loop-x-test.false c.loop-x.invariant

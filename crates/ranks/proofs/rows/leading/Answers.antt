@@ -6,7 +6,7 @@ pub loop-i-init : goal.loop-i-init
 loop-i-init g c = seeking_starts (g.met.K.Kind.lawful c.args.kind.now)
 
 pub loop-i-preserved : goal.loop-i-preserved
-loop-i-preserved g c = seeking_goes_on (g.met.K.Kind.lawful c.args.kind.now) c.loop-i.invariant c.in-default.ensures
+loop-i-preserved g c = seeking_goes_on (g.met.K.Kind.lawful c.args.kind.now) c.loop-i.invariant c.in_default.ensures
 
 pub returns-in-Some : goal.returns-in-Some
 returns-in-Some g c = seeking_finds (g.met.K.Kind.lawful c.args.kind.now) c.args.row.now.cells c.loop-i-test.true c.in-Some.ensures

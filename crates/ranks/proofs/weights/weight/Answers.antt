@@ -16,8 +16,8 @@ pub returns-then-n-word : goal.returns-then-n-word
 returns-then-n-word g c =
     weighing_stops (g.K.Kind.meaning c.args.kind.now) (get_or c.args.lengths.now c.loop-i.i 0) c.loop-i-test.true refl c.if-n-word.true c.loop-i.invariant
 
-pub overflow-add-sum : goal.overflow-add-sum
-overflow-add-sum g c = omega (arith, (loop-i-preserved g c).few, (loop-i-preserved g c).low)
+pub overflow_add-sum : goal.overflow_add-sum
+overflow_add-sum g c = omega (arith, (loop-i-preserved g c).few, (loop-i-preserved g c).low)
 
 pub returns-then-at-word : goal.returns-then-at-word
 returns-then-at-word g c =

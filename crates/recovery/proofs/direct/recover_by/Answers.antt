@@ -8,10 +8,10 @@ use Rattle.recovery.proofs.Sameness.{spans_only}
 use Rattle.recovery.proofs.Hintless.{all_none}
 use Rattle.recovery.proofs.direct.recover_by.Goals as goal
 
-pub returns-in-err-message : goal.returns-in-err-message
-returns-in-err-message g c = record {
+pub returns-in_err-message : goal.returns-in_err-message
+returns-in_err-message g c = record {
   spans = spans_only (g.met.K.Kind.lawful c.args.kind.now) c.args.code.now c.args.word.now;
-  exact = λ law prep size gs h. absurd (c.in-err-message.ensures law prep);
+  exact = λ law prep size gs h. absurd (c.in_err-message.ensures law prep);
 }
 
 pub returns : goal.returns
@@ -21,6 +21,6 @@ returns g c = record {
       let m = g.K.Kind.meaning c.args.kind.now in
       let empty : row_count gs + column_count gs ≡ 0 = omega (arith, h.rows, h.columns, c.if-hints-gt0.false) in
       c.weighed.ensures law gs h
-      (subst (λ us. Candidate m c.args.code.now us (elems m c.args.word.now) (coefficients c.in-ok-message.message)) (sym (all_none (length (held c.args.code.now.lengths)) gs h.size empty))
-      (c.in-ok-message.ensures law prep));
+      (subst (λ us. Candidate m c.args.code.now us (elems m c.args.word.now) (coefficients c.in_ok-message.message)) (sym (all_none (length (held c.args.code.now.lengths)) gs h.size empty))
+      (c.in_ok-message.ensures law prep));
 }

@@ -1,14 +1,14 @@
 use Rattle.recovery.proofs.Sameness.{spans_only}
 use Rattle.recovery.proofs.recovering.recover.Goals as goal
 
-pub returns-in-err-message : goal.returns-in-err-message
-returns-in-err-message g c = record {
+pub returns-in_err-message : goal.returns-in_err-message
+returns-in_err-message g c = record {
   spans = spans_only (g.met.K.Kind.lawful c.args.kind.now) c.args.code.now c.args.word.now;
-  exact = λ law size gs h. absurd (c.in-err-message.ensures law gs h);
+  exact = λ law size gs h. absurd (c.in_err-message.ensures law gs h);
 }
 
 pub returns : goal.returns
 returns g c = record {
   spans = spans_only (g.met.K.Kind.lawful c.args.kind.now) c.args.code.now c.args.word.now;
-  exact = λ law size gs h. c.weighed.ensures law gs h (c.in-ok-message.ensures law gs h);
+  exact = λ law size gs h. c.weighed.ensures law gs h (c.in_ok-message.ensures law gs h);
 }

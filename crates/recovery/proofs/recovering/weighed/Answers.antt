@@ -10,40 +10,40 @@ use Rattle.recovery.proofs.recovering.weighed.Goals as goal
 pub difference-rest-requires : goal.difference-rest-requires
 difference-rest-requires g c = ap length c.encode-codeword.ensures ∙ word_size (g.K.Kind.meaning c.args.kind.now) c.args.code.now _ ∙ sym c.requires
 
-pub returns-in-err-errors : goal.returns-in-err-errors
-returns-in-err-errors g c = λ law gs h candidate.
+pub returns-in_err-errors : goal.returns-in_err-errors
+returns-in_err-errors g c = λ law gs h candidate.
     let m = g.K.Kind.meaning c.args.kind.now in
-    absurd (c.in-err-errors.ensures
+    absurd (c.in_err-errors.ensures
     (ap total c.as-slice-lengths.ensures
     ∙ full_fits (g.met.K.Kind.lawful c.args.kind.now) c.args.code.now c.args.hints.now gs c.args.word.now (coefficients c.args.message.now) (held c.encode-codeword.result) (held c.difference-rest.result)
     c.least-splitting-parts.result law h c.requires candidate (c.encode-codeword.ensures ∙ ap (λ q. codes (word_of m c.args.code.now (elems m q))) c.as-slice.ensures) c.difference-rest.ensures
     (answer_told m c.args.hints.now c.least-splitting-parts.result c.as-slice-lengths.ensures c.as-slice-2.ensures c.least-splitting-parts.ensures c.args.code.now.dimension gs h)
     ∙ sym (ap length c.as-slice-3.ensures)))
 
-pub overflow-add-cost : goal.overflow-add-cost
-overflow-add-cost g c =
+pub overflow_add-cost : goal.overflow_add-cost
+overflow_add-cost g c =
     let full = c.least-splitting-parts.result.full in
     let n : length full.cells ≡ 24 = search rules in
     record {
       fits = omega (
         arith,
-        weighs_few (g.K.Kind.meaning c.args.kind.now) c.as-slice-lengths.result.now c.as-slice-3.result.now c.in-ok-errors.errors c.in-ok-errors.ensures.1,
-        c.in-ok-errors.ensures.0,
+        weighs_few (g.K.Kind.meaning c.args.kind.now) c.as-slice-lengths.result.now c.as-slice-3.result.now c.in_ok-errors.errors c.in_ok-errors.ensures.1,
+        c.in_ok-errors.ensures.0,
         ap length c.as-slice-3.ensures,
         length-take-le full.len full.cells (omega (arith, full.fits, n)),
         full.fits,
       );
     }
 
-pub overflow-add-cost-3 : goal.overflow-add-cost-3
-overflow-add-cost-3 g c =
+pub overflow_add-cost-3 : goal.overflow_add-cost-3
+overflow_add-cost-3 g c =
     let full = c.least-splitting-parts.result.full in
     let n : length full.cells ≡ 24 = search rules in
     record {
       fits = omega (
         arith,
-        weighs_few (g.K.Kind.meaning c.args.kind.now) c.as-slice-lengths.result.now c.as-slice-3.result.now c.in-ok-errors.errors c.in-ok-errors.ensures.1,
-        c.in-ok-errors.ensures.0,
+        weighs_few (g.K.Kind.meaning c.args.kind.now) c.as-slice-lengths.result.now c.as-slice-3.result.now c.in_ok-errors.errors c.in_ok-errors.ensures.1,
+        c.in_ok-errors.ensures.0,
         ap length c.as-slice-3.ensures,
         length-take-le full.len full.cells (omega (arith, full.fits, n)),
         full.fits,
@@ -57,7 +57,7 @@ returns-then-cost-most g c = λ law gs h candidate.
     out_of_reach (g.met.K.Kind.lawful c.args.kind.now) c.args.code.now c.args.hints.now gs c.args.word.now (coefficients c.args.message.now) (held c.encode-codeword.result) (held c.difference-rest.result)
     c.least-splitting-parts.result law h c.requires candidate (c.encode-codeword.ensures ∙ ap (λ q. codes (word_of m c.args.code.now (elems m q))) c.as-slice.ensures) c.difference-rest.ensures
     (answer_told m c.args.hints.now c.least-splitting-parts.result c.as-slice-lengths.ensures c.as-slice-2.ensures c.least-splitting-parts.ensures c.args.code.now.dimension gs h)
-    c.in-ok-errors.errors (weight_told m c.in-ok-errors.errors c.as-slice-lengths.ensures c.as-slice-3.ensures c.in-ok-errors.ensures.1) (omega (arith, c.if-cost-most.true))
+    c.in_ok-errors.errors (weight_told m c.in_ok-errors.errors c.as-slice-lengths.ensures c.as-slice-3.ensures c.in_ok-errors.ensures.1) (omega (arith, c.if-cost-most.true))
 
 pub returns : goal.returns
 returns g c = λ law gs h candidate.
@@ -65,4 +65,4 @@ returns g c = λ law gs h candidate.
     in_reach (g.met.K.Kind.lawful c.args.kind.now) c.args.code.now c.args.hints.now gs c.args.word.now (coefficients c.args.message.now) (held c.encode-codeword.result) (held c.difference-rest.result)
     c.least-splitting-parts.result law h c.requires candidate (c.encode-codeword.ensures ∙ ap (λ q. codes (word_of m c.args.code.now (elems m q))) c.as-slice.ensures) c.difference-rest.ensures
     (answer_told m c.args.hints.now c.least-splitting-parts.result c.as-slice-lengths.ensures c.as-slice-2.ensures c.least-splitting-parts.ensures c.args.code.now.dimension gs h)
-    c.in-ok-errors.errors (weight_told m c.in-ok-errors.errors c.as-slice-lengths.ensures c.as-slice-3.ensures c.in-ok-errors.ensures.1) _ refl refl refl refl (omega (arith, c.if-cost-most.false, law.most, c.requires))
+    c.in_ok-errors.errors (weight_told m c.in_ok-errors.errors c.as-slice-lengths.ensures c.as-slice-3.ensures c.in_ok-errors.ensures.1) _ refl refl refl refl (omega (arith, c.if-cost-most.false, law.most, c.requires))

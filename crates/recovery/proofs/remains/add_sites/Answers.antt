@@ -1,5 +1,5 @@
 use Rattle.std.proofs.Common.{◌≡◌, ◌+◌, ◌<◌, ◌++◌, length, get_or, take, sym, ap, ◌∙◌, subst, arith, length-take-le, rules}
-use lib.ListN.{length-map}
+use Rattle.std.proofs.lemmas.List.{length-map}
 use Rattle.fields.specs.Elements.{elem, elems}
 use Rattle.skew.specs.Values.{eval_code}
 use Rattle.skew.specs.Polynomials.{coefficients}

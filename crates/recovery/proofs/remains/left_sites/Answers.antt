@@ -11,14 +11,14 @@ use Rattle.recovery.proofs.remains.left_sites.Goals as goal
 pub loop-i-init : goal.loop-i-init
 loop-i-init g c = gathering_starts (g.K.Kind.meaning c.args.kind.now) c.empty-out.ensures
 
-pub slice-bounds-add-sites-end : goal.slice-bounds-add-sites-end
-slice-bounds-add-sites-end g c =
+pub slice_bounds-add-sites-end : goal.slice_bounds-add-sites-end
+slice_bounds-add-sites-end g c =
     let h : c.loop-i.i < length (held c.args.code.now.lengths) = subst (λ w. c.loop-i.i < length w) c.as-slice-lengths.ensures c.loop-i-test.true in
     let n : get_or c.as-slice-lengths.result.now c.loop-i.i 0 ≡ get_or (held c.args.code.now.lengths) c.loop-i.i 0 = ap (λ w. get_or w c.loop-i.i 0) c.as-slice-lengths.ensures in
     omega (arith, n, ap length c.as-slice-points.ensures, (block_within c.args.code.now h c.loop-i.invariant.ends).1)
 
-pub slice-bounds-add-sites-end-in-loop-i : goal.slice-bounds-add-sites-end-in-loop-i
-slice-bounds-add-sites-end-in-loop-i g c =
+pub slice_bounds-add-sites-end-in-loop-i : goal.slice_bounds-add-sites-end-in-loop-i
+slice_bounds-add-sites-end-in-loop-i g c =
     let h : c.loop-i.i < length (held c.args.code.now.lengths) = subst (λ w. c.loop-i.i < length w) c.as-slice-lengths.ensures c.loop-i-test.true in
     let n : get_or c.as-slice-lengths.result.now c.loop-i.i 0 ≡ get_or (held c.args.code.now.lengths) c.loop-i.i 0 = ap (λ w. get_or w c.loop-i.i 0) c.as-slice-lengths.ensures in
     omega (arith, n, c.requires, (block_within c.args.code.now h c.loop-i.invariant.ends).1)

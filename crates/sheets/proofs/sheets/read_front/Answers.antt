@@ -6,45 +6,45 @@ use Rattle.sheets.proofs.Fronts.{blocks_stop, lengths_stop, dimension_stops, ope
 use Rattle.sheets.proofs.sheets.read_front.Goals as goal
 use Rattle.sheets.proofs.sheets.read_front.Goals.{then-dimension-lt1-via-then-dimension-lt1, then-dimension-lt1-via-else-dimension-lt1+then-dimension-total}
 
-pub returns-in-err-blocks : goal.returns-in-err-blocks
-returns-in-err-blocks c =
+pub returns-in_err-blocks : goal.returns-in_err-blocks
+returns-in_err-blocks c =
     let p = err_from_is_err_and c.from-residual-in-err-blocks.result c.from-residual-in-err-blocks.ensures.1 in
-    rw (p.1, p.2) (blocks_stop c.in-ok-dimension.ensures c.in-err-blocks.ensures)
+    rw (p.1, p.2) (blocks_stop c.in_ok-dimension.ensures c.in_err-blocks.ensures)
 
-pub returns-in-err-lengths : goal.returns-in-err-lengths
-returns-in-err-lengths c =
+pub returns-in_err-lengths : goal.returns-in_err-lengths
+returns-in_err-lengths c =
     let p = err_from_is_err_and c.from-residual-in-err-lengths.result c.from-residual-in-err-lengths.ensures.1 in
     rw (p.1, p.2)
-    (lengths_stop c.in-ok-dimension.ensures c.in-ok-blocks.ensures c.in-err-lengths.ensures)
+    (lengths_stop c.in_ok-dimension.ensures c.in_ok-blocks.ensures c.in_err-lengths.ensures)
 
 pub returns-then-dimension-lt1 : goal.returns-then-dimension-lt1
 returns-then-dimension-lt1 c =
     rw c.fault.ensures
-    (dimension_stops c.in-ok-dimension.ensures c.in-ok-blocks.ensures c.in-ok-lengths.ensures
+    (dimension_stops c.in_ok-dimension.ensures c.in_ok-blocks.ensures c.in_ok-lengths.ensures
     (elim c.then-dimension-lt1.branch [
       | then-dimension-lt1-via-then-dimension-lt1 w ↦ inl w.if-dimension-lt1.true
       | then-dimension-lt1-via-else-dimension-lt1+then-dimension-total w ↦ inr w.if-dimension-total.true
     ]))
 
-pub returns-in-err-parameters : goal.returns-in-err-parameters
-returns-in-err-parameters c =
+pub returns-in_err-parameters : goal.returns-in_err-parameters
+returns-in_err-parameters c =
     let p = err_from_is_err_and c.from-residual-in-err-parameters.result c.from-residual-in-err-parameters.ensures.1 in
-    let o = opened c.in-ok-dimension.ensures c.in-ok-blocks.ensures c.in-ok-lengths.ensures c.if-dimension-lt1.false c.if-dimension-total.false in
-    rw (p.1, p.2) (parameters_stop o c.in-err-parameters.ensures)
+    let o = opened c.in_ok-dimension.ensures c.in_ok-blocks.ensures c.in_ok-lengths.ensures c.if-dimension-lt1.false c.if-dimension-total.false in
+    rw (p.1, p.2) (parameters_stop o c.in_err-parameters.ensures)
 
-pub returns-in-err-locators : goal.returns-in-err-locators
-returns-in-err-locators c =
+pub returns-in_err-locators : goal.returns-in_err-locators
+returns-in_err-locators c =
     let p = err_from_is_err_and c.from-residual-in-err-locators.result c.from-residual-in-err-locators.ensures.1 in
-    let o = opened c.in-ok-dimension.ensures c.in-ok-blocks.ensures c.in-ok-lengths.ensures c.if-dimension-lt1.false c.if-dimension-total.false in
-    rw (p.1, p.2) (locators_stop o c.in-ok-parameters.ensures c.in-err-locators.ensures)
+    let o = opened c.in_ok-dimension.ensures c.in_ok-blocks.ensures c.in_ok-lengths.ensures c.if-dimension-lt1.false c.if-dimension-total.false in
+    rw (p.1, p.2) (locators_stop o c.in_ok-parameters.ensures c.in_err-locators.ensures)
 
 pub returns : goal.returns
 returns c =
-    let o = opened c.in-ok-dimension.ensures c.in-ok-blocks.ensures c.in-ok-lengths.ensures c.if-dimension-lt1.false c.if-dimension-total.false in (
+    let o = opened c.in_ok-dimension.ensures c.in_ok-blocks.ensures c.in_ok-lengths.ensures c.if-dimension-lt1.false c.if-dimension-total.false in (
       record {
         lengths_at = refl;
-        parameters_at = ap (λ i. parameters c.in-ok-parameters.parameters.now i) (parameters_place o);
-        locators_at = ap (λ i. locators c.in-ok-locators.locators.now i) (locators_place o c.in-ok-parameters.ensures);
+        parameters_at = ap (λ i. parameters c.in_ok-parameters.parameters.now i) (parameters_place o);
+        locators_at = ap (λ i. locators c.in_ok-locators.locators.now i) (locators_place o c.in_ok-parameters.ensures);
       },
-      begins o c.in-ok-parameters.ensures c.in-ok-locators.ensures,
+      begins o c.in_ok-parameters.ensures c.in_ok-locators.ensures,
     )

@@ -8,10 +8,10 @@ pub returns-in-len1-up : goal.returns-in-len1-up
 returns-in-len1-up c =
     rw c.fault.ensures (head_other c.args.number c.args.bytes.now (search rules) c.if-kind-number.true)
 
-pub returns-in-default : goal.returns-in-default
-returns-in-default c =
+pub returns-in_default : goal.returns-in_default
+returns-in_default c =
     rw c.fault-in-default.ensures
-    (elim c.in-default.branch [
+    (elim c.in_default.branch [
       | in-default-via-then-bytes-lt1 w ↦ head_missing c.args.number c.args.bytes.now (inl (search rules))
       | in-default-via-in-len1-up+else-kind-number+then-bytes-lt2 w ↦
           head_missing c.args.number c.args.bytes.now (inr (search rules, w.if-kind-number.false))

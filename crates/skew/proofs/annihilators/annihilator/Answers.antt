@@ -6,11 +6,11 @@ loop-p-init g c = annihilator_starts (g.met.K.Kind.lawful c.args.kind.now) c.emp
 
 pub loop-p-preserved : goal.loop-p-preserved
 loop-p-preserved g c =
-    annihilator_goes_on (g.met.K.Kind.lawful c.args.kind.now) (record { parameter = 0; locator = 0 }) c.args.points.now c.loop-p-test.true c.loop-p.invariant c.in-ok-out.ensures
+    annihilator_goes_on (g.met.K.Kind.lawful c.args.kind.now) (record { parameter = 0; locator = 0 }) c.args.points.now c.loop-p-test.true c.loop-p.invariant c.in_ok-out.ensures
 
-pub returns-in-err-out : goal.returns-in-err-out
-returns-in-err-out g c =
-    absurd (annihilator_room (g.met.K.Kind.lawful c.args.kind.now) c.args.points.now c.if-points-gt-MOST.false c.loop-p-test.true c.loop-p.invariant c.in-err-out.ensures)
+pub returns-in_err-out : goal.returns-in_err-out
+returns-in_err-out g c =
+    absurd (annihilator_room (g.met.K.Kind.lawful c.args.kind.now) c.args.points.now c.if-points-gt-MOST.false c.loop-p-test.true c.loop-p.invariant c.in_err-out.ensures)
 
 pub returns : goal.returns
 returns g c = annihilator_ends (g.met.K.Kind.lawful c.args.kind.now) c.if-points-gt-MOST.false c.loop-p-test.false c.loop-p.invariant

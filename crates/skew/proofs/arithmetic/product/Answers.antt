@@ -4,8 +4,8 @@ use Rattle.skew.proofs.Filling.{short}
 use Rattle.skew.proofs.Adding.{multiply_starts, multiply_goes_on, multiply_ends}
 use Rattle.skew.proofs.arithmetic.product.Goals as goal
 
-pub overflow-add-len : goal.overflow-add-len
-overflow-add-len g c = omega (arith, c.len.ensures, c.len-2.ensures, short c.args.f.now, short c.args.g.now)
+pub overflow_add-len : goal.overflow_add-len
+overflow_add-len g c = omega (arith, c.len.ensures, c.len-2.ensures, short c.args.f.now, short c.args.g.now)
 
 pub loop-j-init : goal.loop-j-init
 loop-j-init g c =

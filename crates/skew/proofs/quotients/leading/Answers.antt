@@ -7,7 +7,7 @@ loop-i-init g c = leading_starts (g.met.K.Kind.lawful c.args.kind.now) c.len-i.e
 
 pub loop-i-preserved : goal.loop-i-preserved
 loop-i-preserved g c =
-    leading_goes_on (g.met.K.Kind.lawful c.args.kind.now) c.loop-i.i (c.loop-i.i - 1) (omega (arith, c.loop-i-test.true)) c.loop-i.invariant c.get.ensures c.in-default.ensures
+    leading_goes_on (g.met.K.Kind.lawful c.args.kind.now) c.loop-i.i (c.loop-i.i - 1) (omega (arith, c.loop-i-test.true)) c.loop-i.invariant c.get.ensures c.in_default.ensures
 
 pub returns-in-Some : goal.returns-in-Some
 returns-in-Some g c =

@@ -7,8 +7,8 @@ use Rattle.skew.proofs.quotients.subtract.Goals as goal
 pub loop-i-init : goal.loop-i-init
 loop-i-init g c = subtract_starts (g.met.K.Kind.lawful c.args.kind.now) (coefficients c.args.divisor.now) c.args.j c.args.c (coefficients c.args.rest.now)
 
-pub overflow-add-place : goal.overflow-add-place
-overflow-add-place g c = omega (arith, c.loop-i-test.true, c.len-i-end.ensures, short c.args.divisor.now, c.requires)
+pub overflow_add-place : goal.overflow_add-place
+overflow_add-place g c = omega (arith, c.loop-i-test.true, c.len-i-end.ensures, short c.args.divisor.now, c.requires)
 
 pub loop-i-preserved : goal.loop-i-preserved
 loop-i-preserved g c =

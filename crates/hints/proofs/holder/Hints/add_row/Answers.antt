@@ -4,12 +4,12 @@ use Rattle.hints.specs.Taking.{There, Left}
 use Rattle.hints.proofs.Judging.{row_depends, row_fresh, row_taken, places_in}
 use Rattle.hints.proofs.holder.Hints.add_row.Goals as goal
 
-pub returns-in-default : goal.returns-in-default
-returns-in-default g c = record {
+pub returns-in_default : goal.returns-in_default
+returns-in_default g c = record {
   kept = search rules;
   judged = λ gs h.
       let there : There (held c.args.code.now.lengths) c.args.block = (omega (arith, c.if-block-eq0.false), omega (arith, c.if-block-len.false, c.len.ensures)) in
-      ((there, omega (arith, c.if-element-size.false, c.size-size.ensures), row_depends (g.met.K.Kind.lawful c.args.kind.now) there h c.args.element c.digits-digits.ensures c.in-default.ensures), tt);
+      ((there, omega (arith, c.if-element-size.false, c.size-size.ensures), row_depends (g.met.K.Kind.lawful c.args.kind.now) there h c.args.element c.digits-digits.ensures c.in_default.ensures), tt);
 }
 
 pub returns-then-spent : goal.returns-then-spent
