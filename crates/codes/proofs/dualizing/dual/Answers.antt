@@ -11,13 +11,13 @@ use Rattle.codes.proofs.DualCode.{turned_length, dualized, undual}
 use Rattle.codes.proofs.dualizing.dual.Goals as goal
 
 pub returns-then-code-points : goal.returns-then-code-points
-returns-then-code-points g c = inl (omega (arith, ap length c.as-slice-points.ensures, c.if-code-points.true))
+returns-then-code-points g c = inl (omega (arith, ap length c.as_slice-points.ensures, c.if-code-points.true))
 
 pub returns-in_err-locators : goal.returns-in_err-locators
 returns-in_err-locators g c =
     let few : length (stops c.args.code.now.course) ≤ 24 = omega (arith, length-take c.args.code.now.course.len c.args.code.now.course.cells, c.args.code.now.course.fits) in
-    simp c.from-residual.ensures
-    (undual (g.K.Kind.meaning c.args.kind.now) c.args.code.now few (rw c.as-slice-points.ensures at c.in_err-locators.ensures))
+    simp c.from_residual.ensures
+    (undual (g.K.Kind.meaning c.args.kind.now) c.args.code.now few (rw c.as_slice-points.ensures at c.in_err-locators.ensures))
 
 pub turned-course-requires : goal.turned-course-requires
 turned-course-requires g c = record { size = c.in_ok-locators.ensures.size; room = c.in_ok-locators.ensures.room }
@@ -25,7 +25,7 @@ turned-course-requires g c = record { size = c.in_ok-locators.ensures.size; room
 pub returns : goal.returns
 returns g c =
     let m = g.K.Kind.meaning c.args.kind.now in
-    let e = c.as-slice-points.ensures in
+    let e = c.as_slice-points.ensures in
     let loc = subst (λ ps. Located m ps (held c.in_ok-locators.locators)) e c.in_ok-locators.ensures in
     dualized (g.met.K.Kind.lawful c.args.kind.now) c.args.code.now _ (held c.in_ok-locators.locators) (omega (arith, ap length e, c.if-code-points.false))
     (ap (λ ps. length ps - c.args.code.now.dimension) e) refl loc
@@ -39,6 +39,6 @@ invariant_of-result g c =
     let loc = c.in_ok-locators.ensures in
     let n : c.turned-course.result.len ≡ code.course.len =
     sym (course_length c.turned-course.result) ∙ ap length c.turned-course.ensures.exact
-    ∙ turned_length m c.as-slice-points.result.now (held c.in_ok-locators.locators) loc.size ∙ ap length c.as-slice-points.ensures ∙ course_length code.course in
-    let l = ap length c.as-slice-points.ensures ∙ course_length code.course in
+    ∙ turned_length m c.as_slice-points.result.now (held c.in_ok-locators.locators) loc.size ∙ ap length c.as_slice-points.ensures ∙ course_length code.course in
+    let l = ap length c.as_slice-points.ensures ∙ course_length code.course in
     (omega (arith, c.if-code-points.false), (omega (arith, l), (code.blocks, (code.each, (code.sum ∙ sym n, tt)))))

@@ -9,15 +9,15 @@ pub returns-in-Some : goal.returns-in-Some
 returns-in-Some g c =
     unfit_parameter (g.K.Kind.meaning c.args.kind.now) c.args.sheet c.requires.laid c.bytes-parameters.ensures c.in-Some.ensures c.offset.ensures c.fault.ensures
 
-pub returns-in-Some-first-outside : goal.returns-in-Some-first-outside
-returns-in-Some-first-outside g c =
+pub returns-in-Some-first_outside : goal.returns-in-Some-first_outside
+returns-in-Some-first_outside g c =
     unfit_locator (g.K.Kind.meaning c.args.kind.now) c.args.sheet c.requires.laid c.bytes-parameters.ensures c.in_default.ensures c.bytes-locators.ensures
-    c.in-Some-first-outside.ensures c.offset-in-Some-first-outside.ensures c.fault-in-Some-first-outside.ensures
+    c.in-Some-first_outside.ensures c.offset-in-Some-first_outside.ensures c.fault-in-Some-first_outside.ensures
 
-pub returns-in-Some-first-related : goal.returns-in-Some-first-related
-returns-in-Some-first-related g c =
+pub returns-in-Some-first_related : goal.returns-in-Some-first_related
+returns-in-Some-first_related g c =
     unfit_related (g.K.Kind.meaning c.args.kind.now) c.args.sheet c.requires.laid c.bytes-parameters.ensures c.in_default.ensures c.bytes-locators.ensures
-    c.in_default-first-outside.ensures c.in-Some-first-related.ensures c.offset-in-Some-first-related.ensures c.fault-in-Some-first-related.ensures
+    c.in_default-first_outside.ensures c.in-Some-first_related.ensures c.offset-in-Some-first_related.ensures c.fault-in-Some-first_related.ensures
 
 pub gather-requires : goal.gather-requires
 gather-requires g c =
@@ -32,15 +32,15 @@ gather-requires g c =
 
 pub returns-in_err-course : goal.returns-in_err-course
 returns-in_err-course g c =
-    let p = err_from_is_err_and c.from-residual.result c.from-residual.ensures.1 in
+    let p = err_from_is_err_and c.from_residual.result c.from_residual.ensures.1 in
     rw (p.1, p.2)
     (unfit_dependent (g.K.Kind.meaning c.args.kind.now) c.args.sheet c.requires.laid c.bytes-lengths.ensures c.bytes-parameters.ensures c.in_default.ensures c.bytes-locators.ensures
-    c.in_default-first-outside.ensures c.in_default-first-related.ensures c.in_err-course.ensures c.offset-2.ensures)
+    c.in_default-first_outside.ensures c.in_default-first_related.ensures c.in_err-course.ensures c.offset-2.ensures)
 
 pub returns : goal.returns
 returns g c =
     made (g.met.K.Kind.lawful c.args.kind.now) c.args.sheet _ c.requires.whole c.bytes-lengths.ensures c.bytes-parameters.ensures c.bytes-locators.ensures
-    c.in_default.ensures c.in_default-first-related.ensures c.in_ok-course.ensures c.copied.ensures refl
+    c.in_default.ensures c.in_default-first_related.ensures c.in_ok-course.ensures c.copied.ensures refl
 
 pub invariant_of-result : goal.invariant_of-result
 invariant_of-result g c =

@@ -11,7 +11,7 @@ advance-terms-requires g c = terms_fit (g.met.K.Kind.lawful c.args.kind.now) c.a
 
 pub loop-j-preserved : goal.loop-j-preserved
 loop-j-preserved g c =
-    check_goes_on (g.met.K.Kind.lawful c.args.kind.now) c.args.points.now c.args.duals.now c.args.word.now (omega arith) (omega arith) (omega arith) c.loop-j.invariant c.product-sum-s.ensures
+    check_goes_on (g.met.K.Kind.lawful c.args.kind.now) c.args.points.now c.args.duals.now c.args.word.now (omega arith) (omega arith) (omega arith) c.loop-j.invariant c.product_sum-s.ensures
     c.push.ensures c.advance-terms.ensures
 
 pub returns : goal.returns

@@ -7,11 +7,11 @@ loop-n-init c = listing_none c.args.code.now c.empty-out.ensures
 
 pub loop-n-preserved : goal.loop-n-preserved
 loop-n-preserved c =
-    let e = c.as-slice-points.ensures in
-    let f = c.as-slice-lengths.ensures in
+    let e = c.as_slice-points.ensures in
+    let f = c.as_slice-lengths.ensures in
     listing_more c.args.code.now (omega (arith, ap length f, c.loop-n-test.true)) c.loop-n.invariant
-    (subst (λ ps. c.loop-n.at < length ps → c.parameter-at-parameter.result ≡ (get_or ps c.loop-n.at (record { parameter = 0; locator = 0 })).parameter) e c.parameter-at-parameter.ensures)
-    c.push.ensures (rw f at c.saturating-add-at.ensures)
+    (subst (λ ps. c.loop-n.at < length ps → c.parameter_at-parameter.result ≡ (get_or ps c.loop-n.at (record { parameter = 0; locator = 0 })).parameter) e c.parameter_at-parameter.ensures)
+    c.push.ensures (rw f at c.saturating_add-at.ensures)
 
 pub returns : goal.returns
-returns c = listing_all c.args.code.now (omega (arith, ap length c.as-slice-lengths.ensures, c.loop-n-test.false)) c.loop-n.invariant
+returns c = listing_all c.args.code.now (omega (arith, ap length c.as_slice-lengths.ensures, c.loop-n-test.false)) c.loop-n.invariant

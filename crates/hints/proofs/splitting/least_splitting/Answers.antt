@@ -10,7 +10,7 @@ loop-i-preserved g c =
     let l = g.met.K.Kind.lawful c.args.kind.now in
     let n = get_or c.args.lengths.now c.loop-i.i 0 in
     let part : c.loop-i.at + n - c.loop-i.at ≡ n = omega arith in
-    (omega (arith, c.loop-i.invariant.0), λ k gs h v. parted_goes_on l h v c.loop-i-test.true refl (ap (λ j. take j (drop c.loop-i.at c.args.difference.now)) part) c.split-block.ensures (c.loop-i.invariant.1 k gs h v))
+    (omega (arith, c.loop-i.invariant.0), λ k gs h v. parted_goes_on l h v c.loop-i-test.true refl (ap (λ j. take j (drop c.loop-i.at c.args.difference.now)) part) c.split_block.ensures (c.loop-i.invariant.1 k gs h v))
 
 pub returns-then-i-ge12 : goal.returns-then-i-ge12
 returns-then-i-ge12 g c = λ k gs h v. absurd (omega (arith, v.few, c.loop-i-test.true))

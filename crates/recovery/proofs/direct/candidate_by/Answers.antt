@@ -12,19 +12,19 @@ returns-in_err-left g c = λ law prep.
     let near = coefficients c.rebuilt-near.result in
     let fits =
     Reaching.left_fits l c.args.code.now c.args.prepared.now c.args.word.now law prep c.requires near (Reaching.reads_first l c.args.code.now c.args.prepared.now c.args.word.now law prep c.requires near c.rebuilt-near.ensures)
-    (sites_in c.other-sites-sites.result) (c.other-sites-sites.ensures _ prep.values) c.in_ok-both.both
-    (subst (λ ss. Held m 0 (spots m ss) c.in_ok-both.both) c.as-slice.ensures c.in_ok-both.ensures.1) in
-    simp c.from-residual-in-err-left.ensures (omega (arith, fits, c.in_err-left.ensures))
+    (sites_in c.other_sites-sites.result) (c.other_sites-sites.ensures _ prep.values) c.in_ok-both.both
+    (subst (λ ss. Held m 0 (spots m ss) c.in_ok-both.both) c.as_slice.ensures c.in_ok-both.ensures.1) in
+    simp c.from_residual-in_err-left.ensures (omega (arith, fits, c.in_err-left.ensures))
 
 pub returns-in_err-off : goal.returns-in_err-off
 returns-in_err-off g c = λ law prep.
     let m = g.K.Kind.meaning c.args.kind.now in
     let l = g.met.K.Kind.lawful c.args.kind.now in
     let near = coefficients c.rebuilt-near.result in
-    simp c.from-residual-in-err-off.ensures
+    simp c.from_residual-in_err-off.ensures
     (Reaching.divides l c.args.code.now c.args.prepared.now c.args.word.now law prep c.requires near (Reaching.reads_first l c.args.code.now c.args.prepared.now c.args.word.now law prep c.requires near c.rebuilt-near.ensures)
-    (sites_in c.other-sites-sites.result) (c.other-sites-sites.ensures _ prep.values) c.in_ok-both.both
-    (subst (λ ss. Held m 0 (spots m ss) c.in_ok-both.both) c.as-slice.ensures c.in_ok-both.ensures.1) c.in_err-off.ensures)
+    (sites_in c.other_sites-sites.result) (c.other_sites-sites.ensures _ prep.values) c.in_ok-both.both
+    (subst (λ ss. Held m 0 (spots m ss) c.in_ok-both.both) c.as_slice.ensures c.in_ok-both.ensures.1) c.in_err-off.ensures)
 
 pub returns : goal.returns
 returns g c = λ law prep.
@@ -32,6 +32,6 @@ returns g c = λ law prep.
     let l = g.met.K.Kind.lawful c.args.kind.now in
     let near = coefficients c.rebuilt-near.result in
     Reaching.candidate l c.args.code.now c.args.prepared.now c.args.word.now law prep c.requires near (Reaching.reads_first l c.args.code.now c.args.prepared.now c.args.word.now law prep c.requires near c.rebuilt-near.ensures)
-    (sites_in c.other-sites-sites.result) (c.other-sites-sites.ensures _ prep.values) c.in_ok-both.both
-    (subst (λ ss. Held m 0 (spots m ss) c.in_ok-both.both) c.as-slice.ensures c.in_ok-both.ensures.1)
+    (sites_in c.other_sites-sites.result) (c.other_sites-sites.ensures _ prep.values) c.in_ok-both.both
+    (subst (λ ss. Held m 0 (spots m ss) c.in_ok-both.both) c.as_slice.ensures c.in_ok-both.ensures.1)
     (coefficients c.in_ok-left.left) c.in_ok-left.ensures (coefficients c.in_ok-off.off) (coefficients c.combine.result) c.opposite-minus.ensures c.in_ok-off.ensures c.combine.ensures

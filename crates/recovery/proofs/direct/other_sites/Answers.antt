@@ -21,15 +21,15 @@ loop-i-preserved g c = λ M e.
     let i = c.loop-i.i in
     turning_goes_on m (stops course) M f c.args.word.now (held c.args.prepared.now.values) i c.requires
     (omega (arith, course.fits, length-take-le course.len course.cells (omega (arith, course.fits, course.whole))))
-    (subst (λ ps. i < length ps) c.as-slice-points.ensures c.loop-i-test.true) e c.args.code.now.dimension
-    (c.value-here.ensures.sum ∙ ap₂ (λ h ps. value_code m h (get_or ps i no_point).parameter (get_or ps i no_point).locator) c.as-slice.ensures c.as-slice-points.ensures)
+    (subst (λ ps. i < length ps) c.as_slice-points.ensures c.loop-i-test.true) e c.args.code.now.dimension
+    (c.value-here.ensures.sum ∙ ap₂ (λ h ps. value_code m h (get_or ps i no_point).parameter (get_or ps i no_point).locator) c.as_slice.ensures c.as_slice-points.ensures)
     c.opposite-minus.ensures c.sum-second.ensures
     (c.push.ensures
-    ∙ ap₂ (λ ps y. take 24 (sites_in c.loop-i.out ++ record { parameter = (get_or ps i no_point).parameter; locator = y; second = c.sum-second.result } ∷ [])) c.as-slice-points.ensures c.get-locator.ensures)
+    ∙ ap₂ (λ ps y. take 24 (sites_in c.loop-i.out ++ record { parameter = (get_or ps i no_point).parameter; locator = y; second = c.sum-second.result } ∷ [])) c.as_slice-points.ensures c.get-locator.ensures)
     (c.loop-i.invariant M e)
 
 pub returns : goal.returns
 returns g c = λ M e.
     let m = g.K.Kind.meaning c.args.kind.now in
     turning_ends m (stops c.args.code.now.course) M (elems m (coefficients c.args.f.now)) c.args.word.now c.args.code.now.dimension c.requires
-    (subst (λ ps. length ps ≤ c.loop-i.i) c.as-slice-points.ensures c.loop-i-test.false) (c.loop-i.invariant M e)
+    (subst (λ ps. length ps ≤ c.loop-i.i) c.as_slice-points.ensures c.loop-i-test.false) (c.loop-i.invariant M e)

@@ -11,7 +11,7 @@ loop-p-preserved g c =
     let m = g.K.Kind.meaning c.args.kind.now in
     elim c.if-form-p.branch [
       | then-form-p w ↦
-          pointing_goes_on m w.element-of-locator.result no_row c.loop-p-test.true w.if-form-p.true (Carrier.named _ w.element-of-locator.ensures) (ap stops w.out-is ∙ w.push.ensures) c.loop-p.invariant
+          pointing_goes_on m w.element_of-locator.result no_row c.loop-p-test.true w.if-form-p.true (Carrier.named _ w.element_of-locator.ensures) (ap stops w.out-is ∙ w.push.ensures) c.loop-p.invariant
       | else-form-p w ↦
           subst (λ o. Pointing m c.args.form.now c.args.parameter (stops c.args.out.now) (c.loop-p.p + 1) (stops o)) (sym w.out-is) (pointing_skips m no_row c.loop-p-test.true w.if-form-p.false c.loop-p.invariant)
     ]

@@ -11,13 +11,13 @@ use Rattle.recovery.proofs.preparing.prepare.Goals as goal
 
 pub returns-in_err-unit : goal.returns-in_err-unit
 returns-in_err-unit g c = λ law.
-    simp c.from-residual-in-err-unit.ensures
+    simp c.from_residual-in_err-unit.ensures
     (lawful_there (g.met.K.Kind.lawful c.args.kind.now) c.args.code.now law
-    (subst (Unlawful (g.K.Kind.meaning c.args.kind.now)) (first_cut c.args.code.now.dimension c.as-slice-points.ensures) c.in_err-unit.ensures))
+    (subst (Unlawful (g.K.Kind.meaning c.args.kind.now)) (first_cut c.args.code.now.dimension c.as_slice-points.ensures) c.in_err-unit.ensures))
 
 pub loop-j-preserved : goal.loop-j-preserved
 loop-j-preserved g c =
-    collected_goes_on (g.met.K.Kind.lawful c.args.kind.now) (take (c.args.code.now.dimension - 0) c.as-slice-points.result.now)
+    collected_goes_on (g.met.K.Kind.lawful c.args.kind.now) (take (c.args.code.now.dimension - 0) c.as_slice-points.result.now)
     (omega (arith, c.loop-j-test.true, c.args.code.now.most, c.args.code.now.course.fits)) (map-set coefficients c.loop-j.units c.loop-j.j c.in_ok-unit.unit)
     c.in_ok-unit.ensures c.loop-j.invariant
 
@@ -27,10 +27,10 @@ invariant_of-result g c = (sym (length-map c.loop-j.units coefficients) ∙ c.lo
 pub returns : goal.returns
 returns g c = λ law.
     let m = g.K.Kind.meaning c.args.kind.now in
-    let first = first_cut c.args.code.now.dimension c.as-slice-points.ensures in
+    let first = first_cut c.args.code.now.dimension c.as_slice-points.ensures in
     let all_of : c.loop-j.j ≡ c.args.code.now.dimension = omega (arith, c.loop-j-test.false, c.loop-j.auto.j-end) in
     prepares (g.met.K.Kind.lawful c.args.kind.now) c.args.code.now law _
     (subst (λ ps. Annihilated m ps (coefficients c.in_ok-top.top)) first c.in_ok-top.ensures)
-    (c.encode-values.ensures ∙ ap (λ f. codes (word_of m c.args.code.now (elems m f))) c.as-slice.ensures)
+    (c.encode-values.ensures ∙ ap (λ f. codes (word_of m c.args.code.now (elems m f))) c.as_slice.ensures)
     (subst (λ ps. Collected m ps c.args.code.now.dimension (map coefficients c.loop-j.units)) first
-    (subst (λ n. Collected m (take (c.args.code.now.dimension - 0) c.as-slice-points.result.now) n (map coefficients c.loop-j.units)) all_of c.loop-j.invariant))
+    (subst (λ n. Collected m (take (c.args.code.now.dimension - 0) c.as_slice-points.result.now) n (map coefficients c.loop-j.units)) all_of c.loop-j.invariant))

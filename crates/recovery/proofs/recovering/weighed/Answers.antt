@@ -14,22 +14,22 @@ pub returns-in_err-errors : goal.returns-in_err-errors
 returns-in_err-errors g c = λ law gs h candidate.
     let m = g.K.Kind.meaning c.args.kind.now in
     absurd (c.in_err-errors.ensures
-    (ap total c.as-slice-lengths.ensures
+    (ap total c.as_slice-lengths.ensures
     ∙ full_fits (g.met.K.Kind.lawful c.args.kind.now) c.args.code.now c.args.hints.now gs c.args.word.now (coefficients c.args.message.now) (held c.encode-codeword.result) (held c.difference-rest.result)
-    c.least-splitting-parts.result law h c.requires candidate (c.encode-codeword.ensures ∙ ap (λ q. codes (word_of m c.args.code.now (elems m q))) c.as-slice.ensures) c.difference-rest.ensures
-    (answer_told m c.args.hints.now c.least-splitting-parts.result c.as-slice-lengths.ensures c.as-slice-2.ensures c.least-splitting-parts.ensures c.args.code.now.dimension gs h)
-    ∙ sym (ap length c.as-slice-3.ensures)))
+    c.least_splitting-parts.result law h c.requires candidate (c.encode-codeword.ensures ∙ ap (λ q. codes (word_of m c.args.code.now (elems m q))) c.as_slice.ensures) c.difference-rest.ensures
+    (answer_told m c.args.hints.now c.least_splitting-parts.result c.as_slice-lengths.ensures c.as_slice-2.ensures c.least_splitting-parts.ensures c.args.code.now.dimension gs h)
+    ∙ sym (ap length c.as_slice-3.ensures)))
 
 pub overflow_add-cost : goal.overflow_add-cost
 overflow_add-cost g c =
-    let full = c.least-splitting-parts.result.full in
+    let full = c.least_splitting-parts.result.full in
     let n : length full.cells ≡ 24 = search rules in
     record {
       fits = omega (
         arith,
-        weighs_few (g.K.Kind.meaning c.args.kind.now) c.as-slice-lengths.result.now c.as-slice-3.result.now c.in_ok-errors.errors c.in_ok-errors.ensures.1,
+        weighs_few (g.K.Kind.meaning c.args.kind.now) c.as_slice-lengths.result.now c.as_slice-3.result.now c.in_ok-errors.errors c.in_ok-errors.ensures.1,
         c.in_ok-errors.ensures.0,
-        ap length c.as-slice-3.ensures,
+        ap length c.as_slice-3.ensures,
         length-take-le full.len full.cells (omega (arith, full.fits, n)),
         full.fits,
       );
@@ -37,14 +37,14 @@ overflow_add-cost g c =
 
 pub overflow_add-cost-3 : goal.overflow_add-cost-3
 overflow_add-cost-3 g c =
-    let full = c.least-splitting-parts.result.full in
+    let full = c.least_splitting-parts.result.full in
     let n : length full.cells ≡ 24 = search rules in
     record {
       fits = omega (
         arith,
-        weighs_few (g.K.Kind.meaning c.args.kind.now) c.as-slice-lengths.result.now c.as-slice-3.result.now c.in_ok-errors.errors c.in_ok-errors.ensures.1,
+        weighs_few (g.K.Kind.meaning c.args.kind.now) c.as_slice-lengths.result.now c.as_slice-3.result.now c.in_ok-errors.errors c.in_ok-errors.ensures.1,
         c.in_ok-errors.ensures.0,
-        ap length c.as-slice-3.ensures,
+        ap length c.as_slice-3.ensures,
         length-take-le full.len full.cells (omega (arith, full.fits, n)),
         full.fits,
         c.args.hints.now.few,
@@ -55,14 +55,14 @@ pub returns-then-cost-most : goal.returns-then-cost-most
 returns-then-cost-most g c = λ law gs h candidate.
     let m = g.K.Kind.meaning c.args.kind.now in
     out_of_reach (g.met.K.Kind.lawful c.args.kind.now) c.args.code.now c.args.hints.now gs c.args.word.now (coefficients c.args.message.now) (held c.encode-codeword.result) (held c.difference-rest.result)
-    c.least-splitting-parts.result law h c.requires candidate (c.encode-codeword.ensures ∙ ap (λ q. codes (word_of m c.args.code.now (elems m q))) c.as-slice.ensures) c.difference-rest.ensures
-    (answer_told m c.args.hints.now c.least-splitting-parts.result c.as-slice-lengths.ensures c.as-slice-2.ensures c.least-splitting-parts.ensures c.args.code.now.dimension gs h)
-    c.in_ok-errors.errors (weight_told m c.in_ok-errors.errors c.as-slice-lengths.ensures c.as-slice-3.ensures c.in_ok-errors.ensures.1) (omega (arith, c.if-cost-most.true))
+    c.least_splitting-parts.result law h c.requires candidate (c.encode-codeword.ensures ∙ ap (λ q. codes (word_of m c.args.code.now (elems m q))) c.as_slice.ensures) c.difference-rest.ensures
+    (answer_told m c.args.hints.now c.least_splitting-parts.result c.as_slice-lengths.ensures c.as_slice-2.ensures c.least_splitting-parts.ensures c.args.code.now.dimension gs h)
+    c.in_ok-errors.errors (weight_told m c.in_ok-errors.errors c.as_slice-lengths.ensures c.as_slice-3.ensures c.in_ok-errors.ensures.1) (omega (arith, c.if-cost-most.true))
 
 pub returns : goal.returns
 returns g c = λ law gs h candidate.
     let m = g.K.Kind.meaning c.args.kind.now in
     in_reach (g.met.K.Kind.lawful c.args.kind.now) c.args.code.now c.args.hints.now gs c.args.word.now (coefficients c.args.message.now) (held c.encode-codeword.result) (held c.difference-rest.result)
-    c.least-splitting-parts.result law h c.requires candidate (c.encode-codeword.ensures ∙ ap (λ q. codes (word_of m c.args.code.now (elems m q))) c.as-slice.ensures) c.difference-rest.ensures
-    (answer_told m c.args.hints.now c.least-splitting-parts.result c.as-slice-lengths.ensures c.as-slice-2.ensures c.least-splitting-parts.ensures c.args.code.now.dimension gs h)
-    c.in_ok-errors.errors (weight_told m c.in_ok-errors.errors c.as-slice-lengths.ensures c.as-slice-3.ensures c.in_ok-errors.ensures.1) _ refl refl refl refl (omega (arith, c.if-cost-most.false, law.most, c.requires))
+    c.least_splitting-parts.result law h c.requires candidate (c.encode-codeword.ensures ∙ ap (λ q. codes (word_of m c.args.code.now (elems m q))) c.as_slice.ensures) c.difference-rest.ensures
+    (answer_told m c.args.hints.now c.least_splitting-parts.result c.as_slice-lengths.ensures c.as_slice-2.ensures c.least_splitting-parts.ensures c.args.code.now.dimension gs h)
+    c.in_ok-errors.errors (weight_told m c.in_ok-errors.errors c.as_slice-lengths.ensures c.as_slice-3.ensures c.in_ok-errors.ensures.1) _ refl refl refl refl (omega (arith, c.if-cost-most.false, law.most, c.requires))

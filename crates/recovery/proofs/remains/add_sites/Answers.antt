@@ -31,7 +31,7 @@ loop-p-preserved g c =
       | then-not-columns-p w ↦
           leaving_goes_on m hm hu hv (record { parameter = (get_or c.args.points.now 0 no_point).parameter; locator = get_or us c.loop-p.p 0; second = w.value-second.result }) w.if-not-columns-p.true
           (site_here m c.args.points.now (coefficients c.args.killer.now) us vs n low
-          (subst (λ f. w.value-second.result ≡ eval_code m f (get_or c.args.points.now 0 no_point).parameter (get_or vs c.loop-p.p 0)) w.as-slice.ensures w.value-second.ensures.steps))
+          (subst (λ f. w.value-second.result ≡ eval_code m f (get_or c.args.points.now 0 no_point).parameter (get_or vs c.loop-p.p 0)) w.as_slice.ensures w.value-second.ensures.steps))
           (ap sites_in w.out-is ∙ w.push.ensures) c.loop-p.invariant
       | else-not-columns-p w ↦
           subst (λ o. Leaving m (parameter_of m c.args.points.now) (elems m (coefficients c.args.killer.now)) c.args.columns.now.marks (take n (elems m us)) (take n (elems m vs)) (sites_in c.args.out.now) (c.loop-p.p + 1) (sites_in o))
@@ -50,5 +50,5 @@ returns g c =
     (omega (arith, c.loop-p.out.fits, c.loop-p.out.whole, length-take-le c.loop-p.out.len c.loop-p.out.cells (omega (arith, c.loop-p.out.fits, c.loop-p.out.whole)))) c.loop-p.invariant
     ∙ ap (λ w. take 24 (spots m (sites_in c.args.out.now) ++ w))
     (block_spots_here m f (elems m (coefficients c.args.killer.now)) c.args.points.now c.args.symbols.now (elems m us) (elems m c.cleared-left.result.cells) c.requires.same
-    (c.cleared-locators.ensures k ∙ ap (clear (ops m) f.marks (rows_of m f)) (c.locator-row-places.ensures m))
-    (c.cleared-left.ensures k ∙ ap (clear (ops m) f.marks (rows_of m f)) (ap (elems m) (c.row-of-received.ensures (omega (arith, c.requires.few, c.requires.same))) ∙ padded_numbers m c.args.symbols.now)))
+    (c.cleared-locators.ensures k ∙ ap (clear (ops m) f.marks (rows_of m f)) (c.locator_row-places.ensures m))
+    (c.cleared-left.ensures k ∙ ap (clear (ops m) f.marks (rows_of m f)) (ap (elems m) (c.row_of-received.ensures (omega (arith, c.requires.few, c.requires.same))) ∙ padded_numbers m c.args.symbols.now)))

@@ -8,12 +8,12 @@ use Rattle.sheets.proofs.sheets.read_front.Goals.{then-dimension-lt1-via-then-di
 
 pub returns-in_err-blocks : goal.returns-in_err-blocks
 returns-in_err-blocks c =
-    let p = err_from_is_err_and c.from-residual-in-err-blocks.result c.from-residual-in-err-blocks.ensures.1 in
+    let p = err_from_is_err_and c.from_residual-in_err-blocks.result c.from_residual-in_err-blocks.ensures.1 in
     rw (p.1, p.2) (blocks_stop c.in_ok-dimension.ensures c.in_err-blocks.ensures)
 
 pub returns-in_err-lengths : goal.returns-in_err-lengths
 returns-in_err-lengths c =
-    let p = err_from_is_err_and c.from-residual-in-err-lengths.result c.from-residual-in-err-lengths.ensures.1 in
+    let p = err_from_is_err_and c.from_residual-in_err-lengths.result c.from_residual-in_err-lengths.ensures.1 in
     rw (p.1, p.2)
     (lengths_stop c.in_ok-dimension.ensures c.in_ok-blocks.ensures c.in_err-lengths.ensures)
 
@@ -28,13 +28,13 @@ returns-then-dimension-lt1 c =
 
 pub returns-in_err-parameters : goal.returns-in_err-parameters
 returns-in_err-parameters c =
-    let p = err_from_is_err_and c.from-residual-in-err-parameters.result c.from-residual-in-err-parameters.ensures.1 in
+    let p = err_from_is_err_and c.from_residual-in_err-parameters.result c.from_residual-in_err-parameters.ensures.1 in
     let o = opened c.in_ok-dimension.ensures c.in_ok-blocks.ensures c.in_ok-lengths.ensures c.if-dimension-lt1.false c.if-dimension-total.false in
     rw (p.1, p.2) (parameters_stop o c.in_err-parameters.ensures)
 
 pub returns-in_err-locators : goal.returns-in_err-locators
 returns-in_err-locators c =
-    let p = err_from_is_err_and c.from-residual-in-err-locators.result c.from-residual-in-err-locators.ensures.1 in
+    let p = err_from_is_err_and c.from_residual-in_err-locators.result c.from_residual-in_err-locators.ensures.1 in
     let o = opened c.in_ok-dimension.ensures c.in_ok-blocks.ensures c.in_ok-lengths.ensures c.if-dimension-lt1.false c.if-dimension-total.false in
     rw (p.1, p.2) (locators_stop o c.in_ok-parameters.ensures c.in_err-locators.ensures)
 

@@ -6,7 +6,7 @@ use Rattle.sheets.proofs.sheets.read_lengths.Goals as goal
 
 pub returns-in_err-length : goal.returns-in_err-length
 returns-in_err-length c =
-    let p = err_from_is_err_and c.from-residual.result c.from-residual.ensures.1 in
+    let p = err_from_is_err_and c.from_residual.result c.from_residual.ensures.1 in
     let room : c.min-room.result ≡ min 8 (24 - c.loop-i.total) = search rules in
     rw (p.1, p.2)
     (measuring_stops c.args.bytes.now c.args.blocks c.loop-i.i c.loop-i.total _ c.min-room.result room c.loop-i.invariant

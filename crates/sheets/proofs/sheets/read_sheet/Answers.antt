@@ -6,7 +6,7 @@ use Rattle.sheets.proofs.sheets.read_sheet.Goals as goal
 
 pub returns-in_err-sheet : goal.returns-in_err-sheet
 returns-in_err-sheet c =
-    let p = err_from_is_err_and c.from-residual.result c.from-residual.ensures.1 in
+    let p = err_from_is_err_and c.from_residual.result c.from_residual.ensures.1 in
     rw (p.1, p.2) (broken c.in_err-sheet.ensures)
 
 pub returns-then-end-bytes : goal.returns-then-end-bytes

@@ -10,7 +10,7 @@ overflow_add-len g c = omega (arith, c.len.ensures, c.len-2.ensures, short c.arg
 pub loop-j-init : goal.loop-j-init
 loop-j-init g c =
     let room : length (coefficients c.args.f.now) + length (coefficients c.args.g.now) ≤ 49 = omega (arith, c.len.ensures, c.len-2.ensures, c.if-len.false) in
-    multiply_starts (g.met.K.Kind.lawful c.args.kind.now) room (omega (arith, c.saturating-sub.ensures, c.len-3.ensures, c.len-4.ensures)) c.empty.ensures c.resized-sum.ensures
+    multiply_starts (g.met.K.Kind.lawful c.args.kind.now) room (omega (arith, c.saturating_sub.ensures, c.len-3.ensures, c.len-4.ensures)) c.empty.ensures c.resized-sum.ensures
 
 pub loop-j-preserved : goal.loop-j-preserved
 loop-j-preserved g c = multiply_goes_on (g.met.K.Kind.lawful c.args.kind.now) c.len-j-end.ensures c.loop-j-test.true c.loop-j.invariant c.get.ensures c.add.ensures

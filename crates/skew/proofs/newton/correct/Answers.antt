@@ -5,14 +5,14 @@ use Rattle.skew.proofs.newton.correct.Goals as goal
 pub returns-in-Some : goal.returns-in-Some
 returns-in-Some g c =
     corrected_by (g.met.K.Kind.lawful c.args.kind.now) (coefficients c.args.f.now) (coefficients c.args.base.now) c.args.point c.args.wanted
-    c.as-slice.ensures c.value-here.ensures.steps c.as-slice-2.ensures c.value-there.ensures.steps
+    c.as_slice.ensures c.value-here.ensures.steps c.as_slice-2.ensures c.value-there.ensures.steps
     c.opposite-minus.ensures c.sum-gap.ensures c.in-Some.ensures c.product-c.ensures c.combine.ensures
 
 pub returns-then-gap-eq0 : goal.returns-then-gap-eq0
 returns-then-gap-eq0 g c =
     corrected_same (g.met.K.Kind.lawful c.args.kind.now) (coefficients c.args.f.now) (coefficients c.args.base.now) c.args.point c.args.wanted
-    c.as-slice.ensures c.value-here.ensures.steps c.opposite-minus.ensures c.sum-gap.ensures c.if-gap-eq0.true
+    c.as_slice.ensures c.value-here.ensures.steps c.opposite-minus.ensures c.sum-gap.ensures c.if-gap-eq0.true
 
 pub returns : goal.returns
 returns g c =
-    vanishes_there (g.met.K.Kind.lawful c.args.kind.now) (coefficients c.args.base.now) c.args.point c.as-slice-2.ensures c.value-there.ensures.steps c.in-None.ensures
+    vanishes_there (g.met.K.Kind.lawful c.args.kind.now) (coefficients c.args.base.now) c.args.point c.as_slice-2.ensures c.value-there.ensures.steps c.in-None.ensures

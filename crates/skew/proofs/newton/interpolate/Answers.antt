@@ -7,7 +7,7 @@ loop-i-init g c = newton_starts (g.met.K.Kind.lawful c.args.kind.now) c.args.poi
 
 pub returns-in_err-f : goal.returns-in_err-f
 returns-in_err-f g c =
-    simp c.from-residual.ensures
+    simp c.from_residual.ensures
     (inr (inr (newton_stops (g.met.K.Kind.lawful c.args.kind.now) (record { parameter = 0; locator = 0 }) c.args.points.now c.args.values.now c.loop-i-test.true c.loop-i.invariant c.in_err-f.ensures)))
 
 pub loop-i-preserved : goal.loop-i-preserved

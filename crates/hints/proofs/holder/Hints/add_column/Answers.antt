@@ -15,12 +15,12 @@ returns-in_default-extended g c = record {
       let m = g.K.Kind.meaning c.args.kind.now in
       let size : length c.args.coefficients.now ≡ get_or (held c.args.code.now.lengths) (c.args.block - 1) 0 = c.if-coefficients-get.false ∙ c.get.ensures in
       let few : get_or (held c.args.code.now.lengths) (c.args.block - 1) 0 ≤ 8 = (c.args.code.now.each (c.args.block - 1) (omega (arith, there.0, there.1))).1 in
-      let row : elems m c.row-of-row.result.cells ≡ padded m (elems m c.args.coefficients.now) = ap (elems m) (c.row-of-row.ensures (omega (arith, size, few))) ∙ padded_numbers m c.args.coefficients.now in (
+      let row : elems m c.row_of-row.result.cells ≡ padded m (elems m c.args.coefficients.now) = ap (elems m) (c.row_of-row.ensures (omega (arith, size, few))) ∙ padded_numbers m c.args.coefficients.now in (
         (
           there,
           size,
           c.in_default.ensures,
-          column_depends (g.met.K.Kind.lawful c.args.kind.now) there h c.args.coefficients.now size few c.in_default.ensures c.row-of-row.result.cells row c.in_default-extended.ensures,
+          column_depends (g.met.K.Kind.lawful c.args.kind.now) there h c.args.coefficients.now size few c.in_default.ensures c.row_of-row.result.cells row c.in_default-extended.ensures,
         ),
         tt,
       );
@@ -34,12 +34,12 @@ returns-then-spent g c = record {
       let m = g.K.Kind.meaning c.args.kind.now in
       let size : length c.args.coefficients.now ≡ get_or (held c.args.code.now.lengths) (c.args.block - 1) 0 = c.if-coefficients-get.false ∙ c.get.ensures in
       let few : get_or (held c.args.code.now.lengths) (c.args.block - 1) 0 ≤ 8 = (c.args.code.now.each (c.args.block - 1) (omega (arith, there.0, there.1))).1 in
-      let row : elems m c.row-of-row.result.cells ≡ padded m (elems m c.args.coefficients.now) = ap (elems m) (c.row-of-row.ensures (omega (arith, size, few))) ∙ padded_numbers m c.args.coefficients.now in (
+      let row : elems m c.row_of-row.result.cells ≡ padded m (elems m c.args.coefficients.now) = ap (elems m) (c.row_of-row.ensures (omega (arith, size, few))) ∙ padded_numbers m c.args.coefficients.now in (
         (
           there,
           size,
           c.in_default.ensures,
-          column_fresh (g.met.K.Kind.lawful c.args.kind.now) there h c.args.coefficients.now size few c.in_default.ensures c.row-of-row.result.cells row c.in-Some-extended.ensures,
+          column_fresh (g.met.K.Kind.lawful c.args.kind.now) there h c.args.coefficients.now size few c.in_default.ensures c.row_of-row.result.cells row c.in-Some-extended.ensures,
           (λ left. omega (arith, left, c.if-spent.ensures, h.rows, h.columns, places_in c.args.code.now)),
         ),
         tt,
@@ -55,9 +55,9 @@ returns g c = record {
       let l = g.met.K.Kind.lawful c.args.kind.now in
       let size : length c.args.coefficients.now ≡ get_or (held c.args.code.now.lengths) (c.args.block - 1) 0 = c.if-coefficients-get.false ∙ c.get.ensures in
       let few : get_or (held c.args.code.now.lengths) (c.args.block - 1) 0 ≤ 8 = (c.args.code.now.each (c.args.block - 1) (omega (arith, there.0, there.1))).1 in
-      let row : elems m c.row-of-row.result.cells ≡ padded m (elems m c.args.coefficients.now) = ap (elems m) (c.row-of-row.ensures (omega (arith, size, few))) ∙ padded_numbers m c.args.coefficients.now in
+      let row : elems m c.row_of-row.result.cells ≡ padded m (elems m c.args.coefficients.now) = ap (elems m) (c.row_of-row.ensures (omega (arith, size, few))) ∙ padded_numbers m c.args.coefficients.now in
       let left : Left m (held c.args.code.now.lengths) c.args.code.now.dimension gs = omega (arith, c.if-spent.ensures, h.rows, h.columns, places_in c.args.code.now) in (
-        (there, size, c.in_default.ensures, column_fresh l there h c.args.coefficients.now size few c.in_default.ensures c.row-of-row.result.cells row c.in-Some-extended.ensures, left),
-        column_taken l there h c.args.coefficients.now size few c.in_default.ensures c.row-of-row.result.cells row c.in-Some-extended.ensures _ c.args.code.now.blocks c.args.self.now.room left refl refl refl,
+        (there, size, c.in_default.ensures, column_fresh l there h c.args.coefficients.now size few c.in_default.ensures c.row_of-row.result.cells row c.in-Some-extended.ensures, left),
+        column_taken l there h c.args.coefficients.now size few c.in_default.ensures c.row_of-row.result.cells row c.in-Some-extended.ensures _ c.args.code.now.blocks c.args.self.now.room left refl refl refl,
       );
 }
