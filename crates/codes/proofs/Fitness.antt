@@ -174,21 +174,15 @@ length_at (n ∷ ls) a (suc i) h = length_at ls a.1 i (omega arith)
 -- The code of a sheet keeps the limits of a sheet.
 pub within : {m : Meaning} (s : Sheet) (q : Course) (h : Symbols) → Whole (text_of s).dimension (text_of s).blocks (text_of s).parameters (text_of s).locators
     → {ls ps xs : List ℕ} → ls ≡ part_of s.lengths → ps ≡ part_of s.parameters → xs ≡ part_of s.locators → Gathered m ls ps xs (stops q) → held h ≡ ls
-    → (1 ≤ s.dimension) × ((s.dimension ≤ q.len) × ((length (held h) ≤ 12) × (((i : ℕ) → i < length (held h) → (1 ≤ get_or (held h) i 0) × (get_or (held h) i 0 ≤ 8)) × ((total (held h) ≡ q.len) × Unit {0}))))
+    → (1 ≤ s.dimension) × (s.dimension ≤ q.len) × (length (held h) ≤ 12) × ((i : ℕ) → i < length (held h) → (1 ≤ get_or (held h) i 0) × (get_or (held h) i 0 ≤ 8)) × (total (held h) ≡ q.len)
 within s q h w {ls} {ps} {xs} el ep ex g eh =
     let hl : held h ≡ part_of s.lengths = eh ∙ el in
     let many : length ps ≡ length ls = ap length ep ∙ w.as_many_parameters ∙ sym (ap length el) in
     let size : length xs ≡ total ls = ap length ex ∙ w.as_many_locators ∙ sum_total (part_of s.lengths) ∙ sym (ap total el) in
     let n : q.len ≡ total ls = sym (course_length q) ∙ ap length g.all ∙ route_size ls ps xs many (omega arith) in (
       w.opens.least,
-      (
-        omega (arith, w.opens.most, sum_total (part_of s.lengths), ap total el),
-        (
-          omega (arith, ap length hl, w.opens.blocks.1),
-          (
-            (λ i k. let r = length_at (part_of s.lengths) w.opens.lengths.each i (omega (arith, ap length hl)) in subst (λ zs. (1 ≤ get_or zs i 0) × (get_or zs i 0 ≤ 8)) (sym hl) r),
-            (ap total eh ∙ sym n, tt),
-          ),
-        ),
-      ),
+      omega (arith, w.opens.most, sum_total (part_of s.lengths), ap total el),
+      omega (arith, ap length hl, w.opens.blocks.1),
+      (λ i k. let r = length_at (part_of s.lengths) w.opens.lengths.each i (omega (arith, ap length hl)) in subst (λ zs. (1 ≤ get_or zs i 0) × (get_or zs i 0 ≤ 8)) (sym hl) r),
+      ap total eh ∙ sym n,
     )

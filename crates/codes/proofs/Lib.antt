@@ -1,3 +1,5 @@
+pub mod Filling
+pub mod Holding
 pub mod EncodingLoop
 pub mod Reading
 pub mod Fitting

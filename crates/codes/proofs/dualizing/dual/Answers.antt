@@ -41,4 +41,10 @@ invariant_of-result g c =
     sym (course_length c.turned-course.result) ∙ ap length c.turned-course.ensures.exact
     ∙ turned_length m c.as_slice-points.result.now (held c.in_ok-locators.locators) loc.size ∙ ap length c.as_slice-points.ensures ∙ course_length code.course in
     let l = ap length c.as_slice-points.ensures ∙ course_length code.course in
-    (omega (arith, c.if-code-points.false), (omega (arith, l), (code.blocks, (code.each, (code.sum ∙ sym n, tt)))))
+    record {
+      least = omega (arith, c.if-code-points.false);
+      most = omega (arith, l);
+      blocks = code.blocks;
+      each = code.each;
+      sum = code.sum ∙ sym n;
+    }

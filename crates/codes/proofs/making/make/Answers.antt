@@ -24,10 +24,10 @@ gather-requires g c =
     let w = c.requires.whole in
     let e = sum_total (part_of c.args.sheet.lengths) in
     record {
-      many = ap length c.bytes-parameters.ensures ∙ w.as-many-parameters ∙ sym (ap length c.bytes-lengths.ensures);
-      sum = ap length c.bytes-locators.ensures ∙ w.as-many-locators ∙ e ∙ sym (ap total c.bytes-lengths.ensures);
+      many = ap length c.bytes-parameters.ensures ∙ w.as_many_parameters ∙ sym (ap length c.bytes-lengths.ensures);
+      sum = ap length c.bytes-locators.ensures ∙ w.as_many_locators ∙ e ∙ sym (ap total c.bytes-lengths.ensures);
       few = omega (arith, ap total c.bytes-lengths.ensures, e, w.opens.lengths.total);
-      near = omega (arith, c.offset-2.ensures, locators_offset c.args.sheet c.requires.laid, w.opens.blocks.1, w.as-many-parameters);
+      near = omega (arith, c.offset-2.ensures, locators_offset c.args.sheet c.requires.laid, w.opens.blocks.1, w.as_many_parameters);
     }
 
 pub returns-in_err-course : goal.returns-in_err-course
@@ -44,5 +44,7 @@ returns g c =
 
 pub invariant_of-result : goal.invariant_of-result
 invariant_of-result g c =
+    let w =
     within c.args.sheet c.in_ok-course.course c.copied.result c.requires.whole c.bytes-lengths.ensures c.bytes-parameters.ensures c.bytes-locators.ensures
-    c.in_ok-course.ensures c.copied.ensures
+    c.in_ok-course.ensures c.copied.ensures in
+    record { least = w.0; most = w.1; blocks = w.2; each = w.3; sum = w.4 }
