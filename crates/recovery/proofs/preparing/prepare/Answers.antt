@@ -22,7 +22,7 @@ loop-j-preserved g c =
     c.in_ok-unit.ensures c.loop-j.invariant
 
 pub invariant_of-result : goal.invariant_of-result
-invariant_of-result g c = (sym (length-map c.loop-j.units coefficients) ∙ c.loop-j.invariant.size, tt)
+invariant_of-result g c = record { whole = sym (length-map c.loop-j.units coefficients) ∙ c.loop-j.invariant.size }
 
 pub returns : goal.returns
 returns g c = λ law.
