@@ -1,8 +1,8 @@
 -- The laws of the brought kind, from what `fields` has proved of residues.
-use Rattle.std.specs.Prelude.{◌≡◌, ℕ, [], ◌∷◌, refl}
+use Rattle.std.specs.Prelude.{[], ◌∷◌, refl}
 use Rattle.std.proofs.Common.{lit<, lit≤}
 use Rattle.fields.specs.Meaning.{Laws}
-use Rattle.fields.specs.Residues.{sum, product, power, trace, traces}
+use Rattle.fields.specs.Residues.{sum, product, power, trace}
 use Rattle.fields.specs.Shipped.{modulus256}
 use Rattle.fields.specs.Rings.{ring256}
 use Rattle.fields.specs.DigitTests.{DigitLaws}

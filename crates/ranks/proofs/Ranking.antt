@@ -20,7 +20,7 @@ use Rattle.skew.specs.Roots.{Independent}
 use Rattle.skew.proofs.Everywhere.{all_append, all_left, all_right}
 use Rattle.skew.proofs.Sums.{cons_path}
 use Rattle.ranks.specs.Ranks.{pick, Spanned, IsRank, Depends}
-use Rattle.ranks.specs.Reduction.{mix, Row, AmongRows, Reduced, row, rows_of, InForm, Inserted, eight}
+use Rattle.ranks.specs.Reduction.{mix, Row, AmongRows, Reduced, rows_of, InForm, Inserted, eight}
 use Rattle.ranks.specs.declared.rows.Form.{Form}
 use Rattle.ranks.proofs.Spans
 use Rattle.ranks.proofs.Mixing

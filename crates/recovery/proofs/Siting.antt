@@ -3,7 +3,7 @@
 --   sited blocks ws gs       each block with its symbols and its hints
 --   all_shown m ns bs        the hints as the program holds them, block by block
 --   all_marks ns bs          the places of the pivots of the column hints
-use Rattle.std.proofs.Common.{◌≡◌, ℕ, suc, ◌+◌, ◌≤◌, Bool, List, [], ◌∷◌, ◌++◌, map, length, get_or, take, drop, sym, refl, ap, ◌∙◌, arith}
+use Rattle.std.proofs.Common.{◌≡◌, ℕ, suc, ◌≤◌, Bool, List, [], ◌∷◌, ◌++◌, map, length, get_or, take, drop, sym, refl, ap, ◌∙◌, arith}
 use Rattle.std.proofs.lemmas.List.{length-map}
 use Rattle.std.proofs.lemmas.List.{length-drop}
 use Rattle.fields.specs.Field.{Ops, plus}

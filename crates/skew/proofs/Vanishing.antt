@@ -3,7 +3,7 @@
 --   linear o c    x - c; where c × w is what x takes w to, it takes w to zero
 --   highest, product_monic    multiplied by it from the left, a monic polynomial stays monic
 --   is_annihilator            what vanishes at points vanishes at their combinations with fixed coefficients
-use Rattle.std.proofs.Common.{◌≡◌, ℕ, suc, ◌-◌, ◌<◌, ◌≤◌, ◌≢◌, List, [], ◌∷◌, map, length, sym, refl, ap, ◌∙◌, subst, inl, inr, arith}
+use Rattle.std.proofs.Common.{◌≡◌, ℕ, suc, ◌<◌, ◌≤◌, ◌≢◌, List, [], ◌∷◌, map, length, sym, refl, ap, ◌∙◌, subst, inl, inr, arith}
 use Rattle.std.proofs.Math.ListN.{get_or-eq_default}
 use Rattle.std.proofs.lemmas.Bool.{cases_lt}
 use Rattle.fields.specs.Lists.{All}

@@ -1,4 +1,4 @@
-use Rattle.std.proofs.Common.{◌≡◌, ◌+◌, ◌-◌, ◌<◌, ◌≤◌, length, get_or, ap, subst, arith, length-take-le}
+use Rattle.std.proofs.Common.{◌≡◌, ◌+◌, ◌<◌, ◌≤◌, length, get_or, ap, subst, arith, length-take-le}
 use Rattle.fields.specs.Elements.{elems}
 use Rattle.skew.specs.Polynomials.{coefficients}
 use Rattle.codes.specs.Holdings.{held, stops}

@@ -1,4 +1,4 @@
-use Rattle.std.proofs.Common.{◌+◌, ◌≤◌, arith}
+use Rattle.std.proofs.Common.{arith}
 use Rattle.skew.proofs.Carrying.{pairs_start, pairs_go_on, pairs_few, pairs_end}
 use Rattle.skew.proofs.engine.pairs.Goals as goal
 

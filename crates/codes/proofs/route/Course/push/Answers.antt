@@ -1,4 +1,3 @@
-use Rattle.std.proofs.Common.{rules}
 use Rattle.codes.proofs.Filling.{pushed, full}
 use Rattle.codes.proofs.route.Course.push.Goals as goal
 
