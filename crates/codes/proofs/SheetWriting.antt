@@ -3,7 +3,7 @@
 --   Listing c i at ps    for every sheet of which c is the code, ps are its first i parameters, and block i begins at point `at`
 use Rattle.std.proofs.Common.{◌≡◌, ℕ, suc, ◌+◌, ◌<◌, ◌≤◌, min, List, [], ◌∷◌, ◌++◌, map, length, get_or, take, drop, sum, sym, refl, ap, ◌∙◌, ap₂, append_assoc, arith, length-append}
 use Rattle.std.proofs.lemmas.List.{length-map}
-use Rattle.std.specs.List.{AllByRecursion as All}
+use Rattle.std.specs.List.{AllByRecursion}
 use Rattle.std.proofs.lemmas.List.{take_all, length-take, length-drop, get_or-map, get_or_append_left, get_or-append-add, map-append, take-append-drop}
 use Rattle.skew.specs.declared.points.Point.{Point}
 use Rattle.codes.specs.declared.shape.Code.{Code}
@@ -18,13 +18,13 @@ use Rattle.codes.proofs.Gathering.{total_split, total_more}
 use Rattle.codes.proofs.Fitness.{sum_total, route_size}
 
 -- Each length is 1 at least.
-least : (ls : List ℕ) → All Length ls → (i : ℕ) → i < length ls → 1 ≤ get_or ls i 0
+least : (ls : List ℕ) → AllByRecursion Length ls → (i : ℕ) → i < length ls → 1 ≤ get_or ls i 0
 least [] a i h = absurd (omega arith)
 least (n ∷ ls) a ℕ.zero h = a.0.0
 least (n ∷ ls) a (suc i) h = least ls a.1 i (omega arith)
 
 -- The first point of a block has the parameter of the block.
-route_parameter : (ls ps xs : List ℕ) (d : Point) (i : ℕ) → length ps ≡ length ls → total ls ≤ length xs → All Length ls → i < length ls
+route_parameter : (ls ps xs : List ℕ) (d : Point) (i : ℕ) → length ps ≡ length ls → total ls ≤ length xs → AllByRecursion Length ls → i < length ls
     → (get_or (route ls ps xs) (total (take i ls)) d).parameter ≡ get_or ps i 0
 route_parameter [] ps xs d i e s a h = absurd (omega arith)
 route_parameter (n ∷ ls) [] xs d i e s a h = absurd (omega arith)

@@ -137,6 +137,9 @@ module _ {m : Meaning} (l : Laws m) where
   pub reciprocal_code : (a : ℕ) → Code m a → Code m (reciprocal_of m a)
   reciprocal_code a h = cond_both (nat_lt 0 a) (m.inverse a) 0 (λ x. x < m.size) (λ e. l.inverse_code a h) (λ e. zero_code)
 
+  pub reciprocal_counts : {r : ℕ} (a : ℕ) → r ≡ reciprocal_of m (clip m a) → clip m r ≡ r
+  reciprocal_counts {r} a e = counts r (subst (λ x. Code m x) (sym e) (reciprocal_code (clip m a) (clip_code a)))
+
   pub ops_laws : field.Laws (ops m)
   unfolding element ops
   ops_laws = record {

@@ -6,7 +6,7 @@
 --     total                      how many bytes there are
 --     final                      the answer where no byte may follow
 use Rattle.std.proofs.Common.{◌≡◌, ℕ, zero, suc, ◌+◌, ◌-◌, ◌<◌, ◌≤◌, min, true, false, cond, ◌&&◌, eqb, leb, ◌≢◌, ◌⊎◌, List, [], ◌∷◌, ◌++◌, length, take, drop, sum, sym, refl, ap, ◌∙◌, subst, inl, inr, add-zero, suc-add, zero-add, arith}
-use Rattle.std.specs.List.{AllByRecursion as All}
+use Rattle.std.specs.List.{AllByRecursion}
 use Rattle.std.proofs.lemmas.List.{append_assoc, append-nil, length-append, take_at, drop_at}
 use Rattle.std.proofs.lemmas.List.Sums.{sum_by-cons, sum_by_push}
 use Rattle.std.proofs.lemmas.Bool.{le-leb, lt-leb, eq-eqb, ne_eqb, and_from, and_left, and_right, cond-true, cond-false}
@@ -66,7 +66,7 @@ limited_in : (total low high : ℕ) (next : ℕ → List ℕ → Verdict) (x : �
 limited_in total low high next x v l h = cond-true _ _ _ (within low high x l h)
 
 -- Lengths within their limits are passed.
-measured_along : (total count : ℕ) (ls ms : List ℕ) (next : List ℕ → List ℕ → Verdict) (v : List ℕ) → All Length ms → sum ls + sum ms ≤ 24 → measured total (length ms + count) ls next (ms ++ v) ≡ measured total count (ls ++ ms) next v
+measured_along : (total count : ℕ) (ls ms : List ℕ) (next : List ℕ → List ℕ → Verdict) (v : List ℕ) → AllByRecursion Length ms → sum ls + sum ms ≤ 24 → measured total (length ms + count) ls next (ms ++ v) ≡ measured total count (ls ++ ms) next v
 measured_along total count ls [] next v a h = rw (zero-add, append-nil)
 measured_along total count ls (x ∷ ms) next v (a, others) h =
     let s : sum (x ∷ ms) ≡ x + sum ms = sum_by-cons (λ y. y) x ms in

@@ -9,7 +9,7 @@
 --     Begins, Spells  a sheet stands in front, up to the byte `end`; the bytes are a sheet
 --     Refused         the bytes are no sheet: none stands in front, or bytes follow it
 use Rattle.std.specs.Prelude.{◌≡◌, ℕ, ◌-◌, ◌<◌, ◌≤◌, min, ◌≢◌, ◌⊎◌, List, [], ◌∷◌, ◌++◌, length, sum}
-use Rattle.std.specs.List.{AllByRecursion as All}
+use Rattle.std.specs.List.{AllByRecursion}
 use Rattle.sheets.specs.declared.faults.Fault.{Fault}
 use Rattle.sheets.specs.declared.faults.Reason.TheVariants.{MissingByte, ExtraBytes, OtherKind, Limit}
 use Rattle.sheets.specs.Faults.{at_sheet}
@@ -42,7 +42,7 @@ abbrev pub Length : ℕ → Type 0
 Length x = (1 ≤ x) × (x ≤ 8)
 
 pub record Lengths (ls : List ℕ) : Type 0 where
-  pub each : All Length ls
+  pub each : AllByRecursion Length ls
   pub total : sum ls ≤ 24
 
 pub record Opens (k : ℕ) (ls : List ℕ) : Type 0 where

@@ -207,6 +207,10 @@ module _ {F : Type 0} {o : Ops F} (l : Laws o) where
     nonzero = λ nf ng z. ng (no_divisors f g nf (of_coef (times o f g) (λ i. sym (h i) ∙ coef_of p z i)));
   }
 
+  -- The product itself keeps it.
+  pub is_product : (f g : List F) → Product o f g (times o f g)
+  is_product f g = same_product f g (times o f g) (λ i. refl)
+
   -- How long a product is at most.
   pub length_product : (f g : List F) → length (times o f g) ≤ length f +ℕ length g - 1
   length_product [] g = omega arith
