@@ -4,7 +4,10 @@ coefficients, codewords by values as sums over norms, messages and dual locators
 norms of the mirror. Nothing is shared with the codec.
 
   codes.py       prints what the program crate code_checks has to print
+  codes.py tour  prints what the program crate tour has to print
 """
+import sys
+
 from fields import Mirror, kinds
 from sheets import judge as read
 from skew import Random, norm, powers, total, twisted, value
@@ -340,7 +343,6 @@ def figures(mod13, gf16):
 
 
 def tour(kind):
-    """The first part of what the program crate tour has to print."""
     data = [4, 2, 4, 1, 1, 1, 1, 4, 1, 2, 3, 4, 4, 1, 1, 1, 1]
     show('sheet', data)
     code = judge(kind, data)[0]
@@ -374,4 +376,7 @@ def main():
 
 
 if __name__ == '__main__':
-    main()
+    if sys.argv[1:] == ['tour']:
+        tour(kinds()[3])
+    else:
+        main()

@@ -6,7 +6,7 @@ together with the row hints, less that of the row hints. For the two small codes
 
   recovery.py cases    prints cases for the program crate recovery_checks, one to a line
   recovery.py          reads such cases and prints what the program has to print
-  recovery.py tour     prints what the program crate tour has to print
+  recovery.py tour     prints what the program crate rescue_tour has to print
   recovery.py small    tries every codeword for every word of the two small codes, and prints what the program prints of them
 """
 import sys

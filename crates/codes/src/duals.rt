@@ -13,7 +13,7 @@ use fields::Kind;
 use skew::{Point, interpolate};
 
 // Over every kind: dual locators exist and are the only ones, the dual code is lawful over the mirror, its codewords are
-// the words whose product_sum with every codeword is 0, its dual has the codewords of the first code, and syndromes tell
+// the words whose product-sum with every codeword is 0, its dual has the codewords of the first code, and syndromes tell
 // codewords. Theorems, which this contract asks for.
 pub fn duals_stand<K: Kind>(kind: &K) -> u8
     ensures duality { Duality (ops (K.meaning kind.now)) }
