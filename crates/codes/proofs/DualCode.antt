@@ -6,7 +6,7 @@ use Rattle.fields.specs.Field.{Ops, mirror, comb}
 use Rattle.fields.specs.Meaning.{Meaning, Laws, clip}
 use Rattle.fields.specs.Mirror.{across}
 use Rattle.fields.specs.Elements.{Elem, elem, elems, ops}
-use Rattle.fields.specs.Carrier
+use Rattle.fields.proofs.Carrier
 use Rattle.skew.specs.declared.points.Point.{Point}
 use Rattle.skew.specs.Roots.{Block, block, points, Lawful}
 use Rattle.skew.specs.Roots as roots

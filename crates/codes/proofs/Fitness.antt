@@ -7,7 +7,7 @@ use Rattle.std.proofs.lemmas.List.{map-append, length-take, length-drop}
 use Rattle.fields.specs.Lists.{All}
 use Rattle.fields.specs.Meaning.{Meaning, Laws}
 use Rattle.fields.specs.Elements.{Elem, elem, elems, ops}
-use Rattle.fields.specs.Carrier
+use Rattle.fields.proofs.Carrier
 use Rattle.skew.specs.Roots.{points, Independent, Conjugate, Apart, Lawful}
 use Rattle.skew.specs.Annihilators.{place, places}
 use Rattle.sheets.specs.declared.faults.Fault.{Fault}

@@ -8,7 +8,7 @@ use Rattle.fields.specs.Field.{scale}
 use Rattle.fields.specs.Field as field
 use Rattle.fields.specs.Meaning.{Meaning, Laws, clip, inverted}
 use Rattle.fields.specs.Elements.{Elem, elem, elems, codes, ops}
-use Rattle.fields.specs.Carrier
+use Rattle.fields.proofs.Carrier
 use Rattle.skew.specs.declared.points.Point.{Point}
 use Rattle.skew.specs.Roots.{Block, points, Lawful}
 use Rattle.skew.specs.Products.{coef}

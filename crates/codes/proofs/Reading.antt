@@ -9,7 +9,7 @@ use Rattle.fields.specs.Field.{Ops}
 use Rattle.fields.specs.Field as field
 use Rattle.fields.specs.Meaning.{Meaning, Laws, clip}
 use Rattle.fields.specs.Elements.{Elem, elem, elems, codes, ops}
-use Rattle.fields.specs.Carrier
+use Rattle.fields.proofs.Carrier
 use Rattle.skew.specs.Products.{coef}
 use Rattle.skew.specs.Polynomials.{Codes, Resized}
 use Rattle.skew.specs.Interpolation.{values, Unlawful, Interpolated}

@@ -1,3 +1,5 @@
+pub mod Carrier
+pub mod Digits
 pub mod Rounds
 pub mod Binary
 pub mod BitLoops

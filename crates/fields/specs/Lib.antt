@@ -5,6 +5,7 @@ pub mod Residues
 pub mod Shipped
 pub mod Field
 pub mod Elements
+pub mod Carried
 pub mod Additive
 pub mod Ternary
 pub mod ShippedLaws
@@ -12,12 +13,10 @@ pub mod Range
 pub mod Rings
 pub mod DigitTests
 pub mod ResidueKinds
-pub mod Carrier
 pub mod Frobenius
 pub mod Basics
 pub mod TraceDigits
 pub mod Traces
-pub mod Digits
 pub mod Rows
 pub mod Generators
 pub mod Tables16

@@ -3,7 +3,7 @@ use Rattle.std.proofs.Common.{◌≡◌, ℕ, suc, Bool, true, false, cond, not,
 use Rattle.std.proofs.lemmas.Bool.{eq-eqb, cond-false, ne_eqb}
 use Rattle.fields.specs.Meaning.{Meaning, Laws}
 use Rattle.fields.specs.Elements.{Elem, elem, ops}
-use Rattle.fields.specs.Carrier
+use Rattle.fields.proofs.Carrier
 use Rattle.fields.specs.Range.{both, both_left, both_right, below, at}
 use Rattle.skew.specs.Roots.{Conjugate}
 use Rattle.codes.specs.Fitness.{Outside, AllNot}

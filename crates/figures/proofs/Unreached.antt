@@ -13,7 +13,7 @@ use Rattle.fields.specs.Lists.{All}
 use Rattle.fields.specs.Field.{Ops, Laws, plus}
 use Rattle.fields.specs.Elements.{Elem, element, elem, elems, ops}
 use Rattle.fields.specs.Shipped.{mod13}
-use Rattle.fields.specs.Carrier
+use Rattle.fields.proofs.Carrier
 use Rattle.fields.specs.Mod13Laws.{mod13_laws}
 use Rattle.fields.specs.Range.{below2, at2}
 use Rattle.skew.specs.Annihilators.{places}

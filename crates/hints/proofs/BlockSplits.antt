@@ -7,7 +7,7 @@ use Rattle.fields.specs.Field as field
 use Rattle.fields.specs.Meaning.{Meaning, Laws}
 use Rattle.fields.specs.Elements.{Elem, elem, elems, codes, ops}
 use Rattle.fields.specs.Basics.{ring}
-use Rattle.fields.specs.Carrier
+use Rattle.fields.proofs.Carrier
 use Rattle.skew.proofs.Sums.{cons_path}
 use Rattle.ranks.specs.Ranks.{pick}
 use Rattle.ranks.specs.Reduction.{mix, rows_of, InForm}

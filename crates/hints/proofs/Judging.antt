@@ -7,7 +7,7 @@ use Rattle.fields.specs.Lists.{All}
 use Rattle.fields.specs.Field as field
 use Rattle.fields.specs.Meaning.{Meaning, Laws, digit_row}
 use Rattle.fields.specs.Elements.{Elem, elem, elems, ops}
-use Rattle.fields.specs.Carrier
+use Rattle.fields.proofs.Carrier
 use Rattle.ranks.specs.Ranks.{total, Spanned}
 use Rattle.ranks.specs.Reduction.{Row, AmongRows, rows_of, InForm, Extended, eight}
 use Rattle.ranks.specs.declared.rows.Form.{Form}

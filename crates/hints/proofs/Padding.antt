@@ -8,7 +8,7 @@ use Rattle.fields.specs.Lists.{All}
 use Rattle.fields.specs.Field.{Ops, Laws, Zero, Fixed, plus, scale}
 use Rattle.fields.specs.Meaning.{Meaning}
 use Rattle.fields.specs.Elements.{elem, elems, ops}
-use Rattle.fields.specs.Carrier
+use Rattle.fields.proofs.Carrier
 use Rattle.skew.proofs.Everywhere.{all_append}
 use Rattle.skew.proofs.Sums.{cons_path}
 use Rattle.ranks.specs.Reduction.{mix, Row, AmongRows}

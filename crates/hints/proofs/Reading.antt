@@ -10,8 +10,8 @@ use Rattle.fields.specs.Field.{Zero, comb}
 use Rattle.fields.specs.Field as field
 use Rattle.fields.specs.Meaning.{Meaning, Laws}
 use Rattle.fields.specs.Elements.{Elem, ops, basis_of, digits_of}
-use Rattle.fields.specs.Carrier
-use Rattle.fields.specs.Digits
+use Rattle.fields.proofs.Carrier
+use Rattle.fields.proofs.Digits
 use Rattle.skew.proofs.Sums.{cons_path}
 use Rattle.ranks.specs.Ranks.{Spanned}
 use Rattle.ranks.specs.Reduction.{Row, AmongRows, Reduced, rows_of, eight}

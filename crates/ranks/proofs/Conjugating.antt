@@ -7,7 +7,7 @@ use Rattle.fields.specs.Field as field
 use Rattle.fields.specs.Meaning.{Meaning, Laws, clip}
 use Rattle.fields.specs.Elements.{Elem, elem, ops}
 use Rattle.fields.specs.Basics
-use Rattle.fields.specs.Carrier
+use Rattle.fields.proofs.Carrier
 use Rattle.skew.specs.Roots.{Conjugate}
 use Rattle.skew.proofs.Growing
 

@@ -14,8 +14,8 @@ use Rattle.fields.specs.Meaning.{Meaning, Laws, clip, digit_row}
 use Rattle.fields.specs.Elements.{Elem, element, elem, elems, ops, basis_of, digits_of}
 use Rattle.fields.specs.Basics
 use Rattle.fields.specs.Basics.{ring}
-use Rattle.fields.specs.Carrier
-use Rattle.fields.specs.Digits
+use Rattle.fields.proofs.Carrier
+use Rattle.fields.proofs.Digits
 use Rattle.skew.specs.Roots.{Independent}
 use Rattle.skew.proofs.Everywhere.{all_append, all_left, all_right}
 use Rattle.skew.proofs.Sums.{cons_path}

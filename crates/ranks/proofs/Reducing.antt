@@ -17,7 +17,7 @@ use Rattle.fields.specs.Meaning.{Meaning, Laws, clip, inverted}
 use Rattle.fields.specs.Elements.{Elem, elem, elems, ops}
 use Rattle.fields.specs.Basics
 use Rattle.fields.specs.Rows
-use Rattle.fields.specs.Carrier
+use Rattle.fields.proofs.Carrier
 use Rattle.skew.specs.Products.{coef}
 use Rattle.skew.proofs.Multiplication
 use Rattle.skew.proofs.Sums

@@ -7,7 +7,7 @@ use Rattle.fields.specs.Field.{plus}
 use Rattle.fields.specs.Field as field
 use Rattle.fields.specs.Meaning.{Meaning, Laws}
 use Rattle.fields.specs.Elements.{Elem, elem, elems, codes, ops}
-use Rattle.fields.specs.Carrier
+use Rattle.fields.proofs.Carrier
 use Rattle.fields.specs.Rows
 use Rattle.skew.specs.Values.{value}
 use Rattle.skew.specs.Roots.{points}

@@ -9,7 +9,7 @@ use Rattle.fields.specs.Field as field
 use Rattle.fields.specs.Meaning.{Meaning, Laws}
 use Rattle.fields.specs.Elements.{Elem, elem, elems, codes, ops}
 use Rattle.fields.specs.Basics
-use Rattle.fields.specs.Carrier
+use Rattle.fields.proofs.Carrier
 use Rattle.fields.specs.Rows
 use Rattle.skew.specs.declared.points.Point.{Point}
 use Rattle.skew.specs.declared.points.Site.{Site as ProgramSite}

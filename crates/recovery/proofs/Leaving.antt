@@ -6,7 +6,7 @@ use Rattle.std.proofs.Common.{◌≡◌, ℕ, suc, ◌+◌, ◌-◌, ◌<◌, �
 use Rattle.std.proofs.lemmas.List.{drop_more, drop_all, drop-drop, take_all, get_or-take, length-drop, length-take-le}
 use Rattle.fields.specs.Meaning.{Meaning}
 use Rattle.fields.specs.Elements.{Elem, elem, elems, ops}
-use Rattle.fields.specs.Carrier
+use Rattle.fields.proofs.Carrier
 use Rattle.skew.specs.declared.points.Point.{Point}
 use Rattle.skew.specs.declared.points.Site.{Site}
 use Rattle.skew.specs.Values.{eval, eval_code}

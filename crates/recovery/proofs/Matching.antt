@@ -8,7 +8,7 @@ use Rattle.fields.specs.Lists.{All}
 use Rattle.fields.specs.Field as field
 use Rattle.fields.specs.Meaning.{Meaning, Laws}
 use Rattle.fields.specs.Elements.{Elem, elem, elems, ops}
-use Rattle.fields.specs.Carrier
+use Rattle.fields.proofs.Carrier
 use Rattle.skew.specs.declared.points.Point.{Point}
 use Rattle.skew.specs.Values.{eval}
 use Rattle.skew.specs.Roots.{Block, block, points, Vanishes}

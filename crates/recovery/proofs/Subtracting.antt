@@ -6,7 +6,7 @@ use Rattle.fields.specs.Field as field
 use Rattle.fields.specs.Meaning.{Meaning, Laws, clip}
 use Rattle.fields.specs.Elements.{elem, elems, ops}
 use Rattle.fields.specs.Basics.{ring}
-use Rattle.fields.specs.Carrier
+use Rattle.fields.proofs.Carrier
 use Rattle.fields.specs.Rows
 use Rattle.skew.specs.Polynomials.{combined}
 use Rattle.skew.proofs.Multiplication

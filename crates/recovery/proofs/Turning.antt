@@ -7,7 +7,7 @@ use Rattle.std.proofs.lemmas.List.{get_or-map, drop_more, drop_all, take_all, le
 use Rattle.fields.specs.Lists.{All}
 use Rattle.fields.specs.Meaning.{Meaning, clip}
 use Rattle.fields.specs.Elements.{Elem, elem, elems, codes, ops}
-use Rattle.fields.specs.Carrier
+use Rattle.fields.proofs.Carrier
 use Rattle.skew.specs.declared.points.Point.{Point}
 use Rattle.skew.specs.declared.points.Site.{Site}
 use Rattle.skew.specs.Values.{value, value_code}

@@ -13,7 +13,7 @@ use Rattle.fields.specs.Meaning.{Meaning, Laws}
 use Rattle.fields.specs.Elements.{Elem, elem, elems, codes, ops}
 use Rattle.fields.specs.Basics
 use Rattle.fields.specs.Basics.{ring}
-use Rattle.fields.specs.Carrier
+use Rattle.fields.proofs.Carrier
 use Rattle.skew.specs.declared.points.Point.{Point}
 use Rattle.skew.specs.Roots.{points, at}
 use Rattle.skew.specs.Products.{coef, Degree}

@@ -12,7 +12,7 @@ use Rattle.fields.specs.Basics
 use Rattle.fields.specs.Rows
 use Rattle.fields.specs.Meaning.{Meaning, Laws, clip}
 use Rattle.fields.specs.Elements.{Elem, elem, elems, codes, ops}
-use Rattle.fields.specs.Carrier
+use Rattle.fields.proofs.Carrier
 use Rattle.skew.specs.Products.{coef}
 use Rattle.skew.specs.Polynomials.{combined, raised}
 use Rattle.skew.proofs.Multiplication

@@ -18,7 +18,7 @@ use Rattle.fields.specs.Meaning.{Meaning, Laws, Code, clip, inverted}
 use Rattle.fields.specs.Elements.{Elem, elem, elems, codes, ops}
 use Rattle.fields.specs.Basics
 use Rattle.fields.specs.Basics.{ring}
-use Rattle.fields.specs.Carrier
+use Rattle.fields.proofs.Carrier
 use Rattle.skew.specs.Values.{twisted}
 use Rattle.skew.specs.Products.{coef, coefficient, Below}
 use Rattle.skew.specs.Polynomials.{Codes, Resized}

@@ -10,7 +10,7 @@ use Rattle.fields.specs.Field as field
 use Rattle.fields.specs.Meaning.{Meaning, Laws, clip, inverted}
 use Rattle.fields.specs.Elements.{Elem, element, elem, elems, codes, ops}
 use Rattle.fields.specs.Basics
-use Rattle.fields.specs.Carrier
+use Rattle.fields.proofs.Carrier
 use Rattle.skew.specs.declared.points.Point.{Point}
 use Rattle.skew.specs.declared.polynomial.Polynomial.{Polynomial}
 use Rattle.skew.specs.Values.{step, eval, value, eval_code}

@@ -12,7 +12,7 @@ use Rattle.fields.specs.Elements.{Elem, elem, elems, codes, ops}
 use Rattle.fields.specs.Basics
 use Rattle.fields.specs.Basics.{ring}
 use Rattle.fields.specs.Rows
-use Rattle.fields.specs.Carrier
+use Rattle.fields.proofs.Carrier
 use Rattle.skew.specs.declared.points.Point.{Point}
 use Rattle.skew.specs.Values.{eval, value, eval_code}
 use Rattle.skew.specs.Roots.{at, Vanishes}

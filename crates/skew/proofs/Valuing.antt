@@ -6,7 +6,7 @@ use Rattle.std.proofs.lemmas.List.{drop_more, drop_all, take_rest}
 use Rattle.fields.specs.Meaning.{Meaning, Laws, clip}
 use Rattle.fields.specs.Elements.{Elem, elem, elems, ops}
 use Rattle.fields.specs.Basics
-use Rattle.fields.specs.Carrier
+use Rattle.fields.proofs.Carrier
 use Rattle.skew.specs.Values.{eval, value_code, eval_code}
 use Rattle.skew.proofs.Values.{eval_value}
 

@@ -1,5 +1,5 @@
-use Rattle.fields.specs.Carrier.{ops_laws}
-use Rattle.fields.specs.Digits.{digits_linear}
+use Rattle.fields.proofs.Carrier.{ops_laws}
+use Rattle.fields.proofs.Digits.{digits_linear}
 use Rattle.fields.proofs.elements_stand.Goals as goal
 
 pub returns : goal.returns

@@ -4,7 +4,7 @@ use Rattle.fields.specs.Residues.{sum, opposite, product, power}
 use Rattle.fields.specs.Elements.{Elem, element, elem, elems, ops}
 use Rattle.fields.specs.Shipped.{gf16, mod13}
 use Rattle.fields.specs.Basics
-use Rattle.fields.specs.Carrier
+use Rattle.fields.proofs.Carrier
 use Rattle.fields.specs.ShippedLaws.{gf16_laws}
 use Rattle.skew.specs.Roots.{Independent}
 use Rattle.codes.specs.Duals.{powers}

@@ -1,4 +1,4 @@
-use Rattle.fields.specs.Carrier
+use Rattle.fields.proofs.Carrier
 use Rattle.skew.proofs.RootCount.{root_count}
 use Rattle.skew.proofs.root_count.Goals as goal
 

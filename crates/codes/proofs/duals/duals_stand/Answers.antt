@@ -1,4 +1,4 @@
-use Rattle.fields.specs.Carrier
+use Rattle.fields.proofs.Carrier
 use Rattle.codes.proofs.DualCodes
 use Rattle.codes.proofs.duals.duals_stand.Goals as goal
 

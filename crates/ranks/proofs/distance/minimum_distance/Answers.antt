@@ -1,4 +1,4 @@
-use Rattle.fields.specs.Carrier
+use Rattle.fields.proofs.Carrier
 use Rattle.ranks.proofs.Separating.{minimum_distance}
 use Rattle.ranks.proofs.distance.minimum_distance.Goals as goal
 

@@ -1,4 +1,4 @@
-use Rattle.fields.specs.Carrier
+use Rattle.fields.proofs.Carrier
 use Rattle.ranks.proofs.Weighing.{ranked}
 use Rattle.ranks.proofs.ranks.ranks_stand.Goals as goal
 

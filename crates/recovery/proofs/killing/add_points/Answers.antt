@@ -1,5 +1,5 @@
 use Rattle.std.proofs.Common.{◌+◌, sym, ap, ◌∙◌, subst, arith, length-take-le}
-use Rattle.fields.specs.Carrier
+use Rattle.fields.proofs.Carrier
 use Rattle.ranks.specs.RowSteps.{no_row}
 use Rattle.codes.specs.Holdings.{stops}
 use Rattle.recovery.proofs.Walking.{Pointing, pointing_skips, pointing_goes_on, pointing_ends}

@@ -1,16 +1,19 @@
--- The elements of a lawful kind are a field with an automorphism, and what a kind answers, told in elements.
-use Rattle.std.specs.Prelude.{◌≡◌, ℕ, suc, ◌<◌, cond, ◌≢◌, List, [], ◌∷◌, map, nat_lt, slice_index, slice_index_or}
+-- The codes of a lawful kind, and elements, as far as the laws of kinds rest on them.
+--
+--   carried m    the operations of a kind on its elements, as `ops` of `Elements` has them, under a name of their own: what shows that
+--                a kind keeps its laws does not rest on what contracts cite
+use Rattle.std.specs.Prelude.{◌≡◌, ℕ, ◌<◌, cond, ◌≢◌, List, [], ◌∷◌, map, nat_lt}
 use Rattle.std.proofs.Math.Path.{refl, sym, ap}
 use Rattle.std.proofs.Common.{◌∙◌, subst, inl, inr, arith}
 use mathlib.Core.HLevel.{Σ_prop_path}
 use Rattle.std.proofs.Math.Nat.{ℕ_set}
 use Rattle.std.proofs.Math.Decide.{ℕ_discrete}
 use Rattle.std.proofs.lemmas.Bool.{cond_both, cond-true, ltb-true, lt-ltb, cases_lt}
-use Rattle.fields.specs.Field.{mirror}
+use Rattle.fields.specs.Lists.{All}
+use Rattle.fields.specs.Field.{Ops, comb}
 use Rattle.fields.specs.Field as field
-use Rattle.fields.specs.Mirror.{mirrored}
-use Rattle.fields.specs.Meaning.{Meaning, Laws, Code, clip}
-use Rattle.fields.specs.Elements.{Element, element, Elem, elem, elems, codes, reciprocal_of, ops}
+use Rattle.fields.specs.Meaning.{Meaning, Laws, Code, clip, combined}
+use Rattle.fields.specs.Elements.{Element, element, Elem, elem, elems, codes, reciprocal_of}
 
 -- A code is the code of its element.
 pub code_elem : (m : Meaning) (a : ℕ) → clip m a ≡ a → a ≡ (elem m a).code
@@ -42,52 +45,38 @@ module _ {n : ℕ} where
   elems_codes (x ∷ xs) = ap (λ y. y ∷ map (element n) (codes xs)) (elem_code x) ∙ ap (λ ys. x ∷ ys) (elems_codes xs)
 
 module _ (m : Meaning) where
-  -- What a kind answers.
-  pub sums : {r : ℕ} (a b : ℕ) → r ≡ m.sum (clip m a) (clip m b) → elem m r ≡ (ops m).add (elem m a) (elem m b)
-  unfolding element ops
-  sums a b e = ap (elem m) e
+  unfoldable pub carried : Ops (Elem m)
+  carried = record {
+    zero = elem m 0;
+    one = elem m 1;
+    add = λ x y. elem m (m.sum x.code y.code);
+    mul = λ x y. elem m (m.product x.code y.code);
+    neg = λ x. elem m (m.opposite x.code);
+    inv = λ x. elem m (reciprocal_of m x.code);
+    twist = λ x. elem m (m.twist x.code);
+    untwist = λ x. elem m (m.untwist x.code);
+  }
 
-  pub multiplies : {r : ℕ} (a b : ℕ) → r ≡ m.product (clip m a) (clip m b) → elem m r ≡ (ops m).mul (elem m a) (elem m b)
-  unfolding element ops
-  multiplies a b e = ap (elem m) e
+  pub zero_is : elem m 0 ≡ carried.zero
+  unfolding carried
+  zero_is = refl
 
-  pub negates : {r : ℕ} (a : ℕ) → r ≡ m.opposite (clip m a) → elem m r ≡ (ops m).neg (elem m a)
-  unfolding element ops
-  negates a e = ap (elem m) e
+  pub one_is : elem m 1 ≡ carried.one
+  unfolding carried
+  one_is = refl
 
-  pub twists : {r : ℕ} (a : ℕ) → r ≡ m.twist (clip m a) → elem m r ≡ (ops m).twist (elem m a)
-  unfolding element ops
-  twists a e = ap (elem m) e
+  -- A sum and a product of what numbers count as, told in elements.
+  pub adds : (a b : ℕ) → elem m (m.sum (clip m a) (clip m b)) ≡ carried.add (elem m a) (elem m b)
+  unfolding element carried
+  adds a b = refl
+
+  pub multiplies : (a b : ℕ) → elem m (m.product (clip m a) (clip m b)) ≡ carried.mul (elem m a) (elem m b)
+  unfolding element carried
+  multiplies a b = refl
 
   pub clips : {r : ℕ} (a : ℕ) → r ≡ clip m a → (elem m r ≡ elem m a) × (clip m r ≡ r)
   unfolding element
   clips a e = (ap (elem m) e ∙ same_code (elem m (clip m a)) (elem m a) (elem m a).counts, ap (clip m) e ∙ (elem m a).counts ∙ sym e)
-
-  pub untwists : {r : ℕ} (a : ℕ) → r ≡ m.untwist (clip m a) → elem m r ≡ (ops m).untwist (elem m a)
-  unfolding element ops
-  untwists a e = ap (elem m) e
-
-  pub inverts : {r : ℕ} (a : ℕ) → r ≡ reciprocal_of m (clip m a) → elem m r ≡ (ops m).inv (elem m a)
-  unfolding element ops
-  inverts a e = ap (elem m) e
-
-  -- The mirror of a kind has the same elements, and the mirrored operations.
-  pub mirror_is : ops (mirrored m) ≡ mirror (ops m)
-  unfolding ops
-  mirror_is = refl
-
-  pub zero_is : elem m 0 ≡ (ops m).zero
-  unfolding ops
-  zero_is = refl
-
-  pub one_is : elem m 1 ≡ (ops m).one
-  unfolding ops
-  one_is = refl
-
-  pub elem_at : (xs : List ℕ) (i : ℕ) → elem m (slice_index xs i) ≡ slice_index_or (elems m xs) i (ops m).zero
-  elem_at [] i = zero_is
-  elem_at (x ∷ xs) ℕ.zero = refl
-  elem_at (x ∷ xs) (suc i) = elem_at xs i
 
 module _ {m : Meaning} (l : Laws m) where
   pub zero_code : Code m 0
@@ -118,13 +107,6 @@ module _ {m : Meaning} (l : Laws m) where
   pub untwist_counts : {r : ℕ} (a : ℕ) → r ≡ m.untwist (clip m a) → clip m r ≡ r
   untwist_counts {r} a e = counts r (subst (λ x. Code m x) (sym e) (l.untwist_code (clip m a) (clip_code a)))
 
-  -- Sums and products of codes, told in elements; and codes are equal where their elements are.
-  pub sum_elem : (a b : ℕ) → Code m a → Code m b → elem m (m.sum a b) ≡ (ops m).add (elem m a) (elem m b)
-  sum_elem a b ha hb = sums m a b (sym (ap (λ x. m.sum x (clip m b)) (counts a ha) ∙ ap (m.sum a) (counts b hb)))
-
-  pub product_elem : (a b : ℕ) → Code m a → Code m b → elem m (m.product a b) ≡ (ops m).mul (elem m a) (elem m b)
-  product_elem a b ha hb = multiplies m a b (sym (ap (λ x. m.product x (clip m b)) (counts a ha) ∙ ap (m.product a) (counts b hb)))
-
   pub same_elem : (a b : ℕ) → Code m a → Code m b → elem m a ≡ elem m b → a ≡ b
   same_elem a b ha hb e = code_elem m a (counts a ha) ∙ ap (λ (x : Elem m). x.code) e ∙ sym (code_elem m b (counts b hb))
 
@@ -140,9 +122,17 @@ module _ {m : Meaning} (l : Laws m) where
   pub reciprocal_counts : {r : ℕ} (a : ℕ) → r ≡ reciprocal_of m (clip m a) → clip m r ≡ r
   reciprocal_counts {r} a e = counts r (subst (λ x. Code m x) (sym e) (reciprocal_code (clip m a) (clip_code a)))
 
-  pub ops_laws : field.Laws (ops m)
-  unfolding element ops
-  ops_laws = record {
+  -- Sums and products of codes, told in elements; and codes are equal where their elements are.
+  pub sum_elem : (a b : ℕ) → Code m a → Code m b → elem m (m.sum a b) ≡ (carried m).add (elem m a) (elem m b)
+  sum_elem a b ha hb = ap (elem m) (sym (ap (λ x. m.sum x (clip m b)) (counts a ha) ∙ ap (m.sum a) (counts b hb))) ∙ adds m a b
+
+  pub product_elem : (a b : ℕ) → Code m a → Code m b → elem m (m.product a b) ≡ (carried m).mul (elem m a) (elem m b)
+  product_elem a b ha hb = ap (elem m) (sym (ap (λ x. m.product x (clip m b)) (counts a ha) ∙ ap (m.product a) (counts b hb))) ∙ multiplies m a b
+
+  -- The elements are a field with an automorphism.
+  pub carried_laws : field.Laws (carried m)
+  unfolding element carried
+  carried_laws = record {
     same = λ x y. elim (ℕ_discrete x.code y.code) [ yes e ↦ yes (same_code x y e) | no n ↦ no (λ e. n (ap (λ (z : Elem m). z.code) e)) ];
     add_comm = λ x y. up (l.sum_comm x.code y.code (is_code x) (is_code y));
     add_assoc = λ x y z.
@@ -183,3 +173,17 @@ module _ {m : Meaning} (l : Laws m) where
 
       above : (x : Elem m) → x ≢ elem m 0 → 0 < x.code
       above x n = elim (cases_lt 0 x.code) [ inl h ↦ h | inr h ↦ absurd (n (same_code x (elem m 0) (let z : x.code ≡ 0 = omega arith in z ∙ sym zero_counts))) ]
+
+  -- A combination of codes is a code, and its element the combination of their elements.
+  pub combined_code : (ds bs : List ℕ) → All (Code m) ds → All (Code m) bs → Code m (combined m ds bs)
+  combined_code [] bs p q = zero_code
+  combined_code (d ∷ ds) [] p q = zero_code
+  combined_code (d ∷ ds) (b ∷ bs) p q = l.sum_code _ _ (l.product_code d b p.0 q.0) (combined_code ds bs p.1 q.1)
+
+  pub combined_elem : (ds bs : List ℕ) → All (Code m) ds → All (Code m) bs → elem m (combined m ds bs) ≡ comb (carried m) (elems m ds) (elems m bs)
+  combined_elem [] bs p q = zero_is m
+  combined_elem (d ∷ ds) [] p q = zero_is m
+  combined_elem (d ∷ ds) (b ∷ bs) p q =
+      sum_elem (m.product d b) (combined m ds bs) (l.product_code d b p.0 q.0) (combined_code ds bs p.1 q.1)
+      ∙ ap (λ x. (carried m).add x (elem m (combined m ds bs))) (product_elem d b p.0 q.0)
+      ∙ ap ((carried m).add ((carried m).mul (elem m d) (elem m b))) (combined_elem ds bs p.1 q.1)

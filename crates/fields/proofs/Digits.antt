@@ -7,23 +7,16 @@ use Rattle.fields.specs.Field.{plus, scale, comb}
 use Rattle.fields.specs.Field as field
 use Rattle.fields.specs.Meaning.{Meaning, Laws, Code, Fixed, combined}
 use Rattle.fields.specs.Elements.{Elem, elem, elems, codes, ops, basis_of, digits_of, DigitsLinear}
-use Rattle.fields.specs.Carrier
+use Rattle.fields.specs.Carried.{carried}
+use Rattle.fields.specs.Carried
+use Rattle.fields.proofs.Carrier
 use Rattle.fields.specs.Rows
 
 module _ {m : Meaning} (l : Laws m) where
-  -- A combination of codes is a code, and its element the combination of their elements.
-  pub combined_code : (ds bs : List ℕ) → All (Code m) ds → All (Code m) bs → Code m (combined m ds bs)
-  combined_code [] bs p q = Carrier.zero_code l
-  combined_code (d ∷ ds) [] p q = Carrier.zero_code l
-  combined_code (d ∷ ds) (b ∷ bs) p q = l.sum_code _ _ (l.product_code d b p.0 q.0) (combined_code ds bs p.1 q.1)
-
+  -- The element of a combination of codes is the combination of their elements.
   pub combined_elem : (ds bs : List ℕ) → All (Code m) ds → All (Code m) bs → elem m (combined m ds bs) ≡ comb (ops m) (elems m ds) (elems m bs)
-  combined_elem [] bs p q = Carrier.zero_is m
-  combined_elem (d ∷ ds) [] p q = Carrier.zero_is m
-  combined_elem (d ∷ ds) (b ∷ bs) p q =
-      Carrier.sum_elem l (m.product d b) (combined m ds bs) (l.product_code d b p.0 q.0) (combined_code ds bs p.1 q.1)
-      ∙ ap (λ x. (ops m).add x (elem m (combined m ds bs))) (Carrier.product_elem l d b p.0 q.0)
-      ∙ ap ((ops m).add ((ops m).mul (elem m d) (elem m b))) (combined_elem ds bs p.1 q.1)
+  unfolding ops carried
+  combined_elem = Carried.combined_elem l
 
   -- Fixed codes are the codes of fixed elements.
   pub fixed_elem : (d : ℕ) → Fixed m d → field.Fixed (ops m) (elem m d)
@@ -64,7 +57,7 @@ module _ {m : Meaning} (l : Laws m) where
       let k = fixed_codes ds f in
       let given = combined_elem (codes ds) m.basis (all_codes (codes ds) k) l.basis_codes ∙ ap (λ w. comb (ops m) w (basis_of m)) (Carrier.elems_codes ds) ∙ e in
       let c : combined m (codes ds) m.basis ≡ x.code =
-      Carrier.answers x (Carrier.counts l _ (combined_code (codes ds) m.basis (all_codes (codes ds) k) l.basis_codes)) given in
+      Carrier.answers x (Carrier.counts l _ (Carried.combined_code l (codes ds) m.basis (all_codes (codes ds) k) l.basis_codes)) given in
       let w : length (codes ds) ≡ m.width = length-map ds (λ y. y.code) ∙ n ∙ length-map m.basis (elem m) ∙ l.basis_length in
       sym (Carrier.elems_codes ds) ∙ ap (elems m) (l.digits_only x.code (codes ds) (Carrier.is_code l x) w k c)
 
