@@ -2,7 +2,8 @@
 -- nothing. `Rounds` has the glossary.
 use Rattle.std.proofs.Common.{◌≡◌, ℕ, zero, suc, ◌+◌, ◌-◌, ◌*◌, ◌/◌, ◌%◌, ◌^◌, ◌<◌, cond, eqb, sym, refl, ap, ◌∙◌, subst, ap₂, mod-lt, div-lt_iff_lt-mul, pow-suc, arith, lit<, eqb→eq}
 use Rattle.std.proofs.Math.Arith.{lt-one}
-use lib.Bits.{bit_xor, differ, xor_step}
+use Prim.Native.Nat.{differ}
+use Rattle.std.specs.Int.Bits.{bit_xor, xor_step}
 use Rattle.fields.specs.Residues.{coefficients, code, plus, scale, Modulus, degree, polynomial, sum, opposite, raised}
 use Rattle.fields.specs.Shipped.{modulus256}
 use Rattle.fields.specs.Range.{at}

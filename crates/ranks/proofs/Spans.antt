@@ -3,7 +3,7 @@
 --   lowered y x      x less its part at y: what x - c takes x to, where y is a root of x - c
 --   Basis xs         independent ones among xs that span all of them
 use Rattle.std.proofs.Common.{◌≡◌, ℕ, suc, ◌≤◌, Bool, true, false, ◌≢◌, List, [], ◌∷◌, map, length, sym, refl, ap, ◌∙◌, subst, arith}
-use native.Mathlib.Decide
+use Rattle.std.proofs.Math.Decide
 use Rattle.std.proofs.lemmas.List.{length-map}
 use Rattle.fields.specs.Lists.{All}
 use Rattle.fields.specs.Field.{Ops, Laws, Zero, Fixed, plus, comb}

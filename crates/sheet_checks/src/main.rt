@@ -2,7 +2,9 @@
 // Prints what the reader of sheets answers. It is held to what an unrelated computation printed (reference/sheets.py).
 #![tactic(auto)]
 
-use sheets::{Section, read_sheet};
+ghost use Rattle.std.specs.Prelude.{◌≡◌};
+
+use sheets::{Fault, Section, read_sheet};
 use std::alloc::Global;
 use std::io;
 use std::io::{BufRead, BufReader};
@@ -14,6 +16,13 @@ fn show(rt: &HostRuntime, name: &str, section: Section) -> io::Result<()> {
         print!(rt; " {x}")?;
     }
     Ok(())
+}
+
+// The place of a refusal, as it is printed.
+fn place(fault: &Fault) -> usize
+    ensures { result ≡ fault.now.place }
+{
+    fault.place
 }
 
 fn report(rt: &HostRuntime, number: u8, bytes: &[u8]) -> io::Result<()> {
@@ -30,7 +39,7 @@ fn report(rt: &HostRuntime, number: u8, bytes: &[u8]) -> io::Result<()> {
                 "refused {} layer {} place {}",
                 fault.number(),
                 fault.layer_number(),
-                fault.place
+                place(&fault)
             )
         }
     }

@@ -19,7 +19,7 @@ returns g c = record {
   spans = spans_only (g.met.K.Kind.lawful c.args.kind.now) c.args.code.now c.args.word.now;
   exact = λ law prep size gs h.
       let m = g.K.Kind.meaning c.args.kind.now in
-      let empty : row_count gs + column_count gs ≡ 0 = omega (arith, h.rows, h.columns, c.if-hints-gt0.false) in
+      let empty : row_count gs + column_count gs ≡ 0 = omega (arith, h.rows, h.columns) in
       c.weighed.ensures law gs h
       (subst (λ us. Candidate m c.args.code.now us (elems m c.args.word.now) (coefficients c.in_ok-message.message)) (sym (all_none (length (held c.args.code.now.lengths)) gs h.size empty))
       (c.in_ok-message.ensures law prep));
