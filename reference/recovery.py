@@ -12,7 +12,7 @@ together with the row hints, less that of the row hints. For the two small codes
 import sys
 from itertools import product as choices
 
-from codes import Code, cut, drawn, encode, fixed, grown, judge, rank, sheet, show, tour, unit
+from codes import Code, cut, drawn, encode, fixed, grown, judge, rank, sheet, show, unit
 from fields import Mirror, check, kinds
 from skew import Random, powers, total, twisted
 
@@ -324,8 +324,8 @@ def small(every):
 
 
 def journey(kind):
-    tour(kind)
     code = judge(kind, A)[0]
+    show('word', encode(kind, code, [5, 3]))
     for word, blocks in (([8, 12, 1, 4], []), ([8, 12, 2, 4], []), ([8, 12, 2, 4], [2]), ([8, 12, 2, 4], [2, 3])):
         show('damaged', word)
         hints = [([], []) for _ in code.lengths]

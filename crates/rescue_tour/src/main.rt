@@ -1,17 +1,12 @@
-// A journey through the codec, one step after the other, each printed. The sheet of a code over the integers modulo 13 is read, one
-// message is encoded in the code, the word and a damaged one are weighed and checked, and damaged words are recovered, without hints and
-// with them.
+// Where the tour ends, this program goes on: words of the same code are damaged, and recovered without hints and with them.
 #![tactic(auto)]
 
-use codes::{Code, Symbols, dual_locators, dual_sheet, encode, message, set_up, syndromes};
+use codes::{Code, Symbols, encode, set_up};
 use fields::{Kind, Mod13};
-use ranks::weight;
-use rescue::rescue;
-use showing::line;
+use rescue::{line, rescue};
 use std::io;
 
 mod rescue;
-mod showing;
 
 // Kind 4, dimension 2; four blocks of one symbol, their parameters, and the locators.
 const SHEET: [u8; 17] = [4, 2, 4, 1, 1, 1, 1, 4, 1, 2, 3, 4, 4, 1, 1, 1, 1];
@@ -23,21 +18,6 @@ const DAMAGE: [u8; 4] = [0, 1, 0, 0];
 
 const MORE: [u8; 4] = [0, 1, 1, 0];
 
-fn show<K: Kind>(rt: &impl Print, kind: &K, code: &Code) -> io::Result<()> {
-    println!(rt;
-        "code: kind {} over {} elements, dimension {}",
-        kind.number(),
-        kind.size(),
-        code.dimension
-    )?;
-    line(rt, "lengths", code.lengths.as_slice())?;
-    print!(rt; "points")?;
-    for p in code.course.as_slice() {
-        print!(rt; " {}:{}", p.parameter, p.locator)?;
-    }
-    println!(rt; "")
-}
-
 // The word plus the damage.
 fn damaged<K: Kind>(kind: &K, word: &Symbols, damage: [u8; 4]) -> Symbols {
     let mut out = Symbols::empty();
@@ -47,43 +27,11 @@ fn damaged<K: Kind>(kind: &K, word: &Symbols, damage: [u8; 4]) -> Symbols {
     out
 }
 
-// A word: its weight, its syndromes, and its message if it is a codeword.
-fn inspect<K: Kind>(
-    rt: &impl Print,
-    kind: &K,
-    code: &Code,
-    duals: &Symbols,
-    word: &[u8],
-) -> io::Result<()> {
-    line(rt, "word", word)?;
-    if let Some(w) = weight(kind, code.lengths.as_slice(), word) {
-        println!(rt; "  weight {w}")?;
-    }
-    let points = code.course.as_slice();
-    if let Some(s) = syndromes(kind, points, duals.as_slice(), code.dimension, word) {
-        line(rt, "  syndromes", s.as_slice())?;
-    }
-    match message(kind, code, word) {
-        Some(f) => line(rt, "  a codeword, of the message", f.as_slice()),
-        None => println!(rt; "  no codeword"),
-    }
-}
-
 fn travel<K: Kind>(rt: &impl Print, kind: &K, code: &Code) -> io::Result<()> {
-    show(rt, kind, code)?;
-    line(rt, "message", &MESSAGE)?;
     let word = encode(kind, code, &MESSAGE);
-    let Some(duals) = dual_locators(kind, code.course.as_slice()) else {
-        return println!(rt; "no dual locators");
-    };
-    line(rt, "dual locators", duals.as_slice())?;
-    if let Some(sheet) = dual_sheet(kind, code) {
-        line(rt, "dual sheet", sheet.as_slice())?;
-    }
+    line(rt, "word", word.as_slice())?;
     let near = damaged(kind, &word, DAMAGE);
     let far = damaged(kind, &word, MORE);
-    inspect(rt, kind, code, &duals, word.as_slice())?;
-    inspect(rt, kind, code, &duals, near.as_slice())?;
     rescue(rt, kind, code, near.as_slice(), &[])?;
     rescue(rt, kind, code, far.as_slice(), &[])?;
     rescue(rt, kind, code, far.as_slice(), &[2])?;
@@ -91,7 +39,6 @@ fn travel<K: Kind>(rt: &impl Print, kind: &K, code: &Code) -> io::Result<()> {
 }
 
 fn main(rt: HostRuntime) -> io::Result<()> {
-    line(&rt, "sheet", &SHEET)?;
     match set_up(&Mod13, &SHEET) {
         Ok(code) => travel(&rt, &Mod13, &code),
         Err(fault) => println!(&rt; "refused {} at place {}", fault.number(), fault.place),
