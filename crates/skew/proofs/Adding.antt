@@ -15,7 +15,8 @@ use Rattle.fields.specs.Basics.{ring}
 use Rattle.fields.proofs.Carrier
 use Rattle.skew.specs.Values.{twisted}
 use Rattle.skew.specs.Products.{coef, coefficient}
-use Rattle.skew.specs.Polynomials.{Codes, Multiplied, Resized, Added}
+use Rattle.skew.specs.Polynomials.{Codes, Multiplied, Added}
+use Rattle.skew.specs.Few.{Resized}
 use Rattle.skew.proofs.Multiplication
 use Rattle.skew.proofs.Multiplication.{times}
 use Rattle.skew.proofs.Division
@@ -34,7 +35,7 @@ pub record Multiplying (m : Meaning) (f g : List ℕ) (j : ℕ) (sum : List ℕ)
   pub is : (l : ℕ) → l < length sum → coef (ops m) (elems m sum) l ≡ coefficient (ops m) (elems m f) (elems m (take j g)) l
 
 -- What is resized from nothing is all zeros.
-pub zeros_null : {e out : List ℕ} {k : ℕ} → e ≡ [] → Resized e k out → (i : ℕ) → get_or out i 0 ≡ 0
+pub zeros_null : {e out : List ℕ} {k : ℕ} → e ≡ [] → Resized 48 e k out → (i : ℕ) → get_or out i 0 ≡ 0
 zeros_null {e} {out} {k} ee z i = elim (cases_lt i (length out)) [ inl h ↦ z.same i h ∙ ap (λ y. get_or y i 0) ee | inr h ↦ get_or_past out i 0 h ]
 
 module _ {m : Meaning} (l : Laws m) where
@@ -119,7 +120,7 @@ module _ {m : Meaning} (l : Laws m) where
       ]
 
   -- Before the first coefficient of g all is zero.
-  pub multiply_starts : {f g e sum : List ℕ} {n : ℕ} → length f + length g ≤ 49 → n ≡ length f + length g - 1 → e ≡ [] → Resized e n sum → Multiplying m f g 0 sum
+  pub multiply_starts : {f g e sum : List ℕ} {n : ℕ} → length f + length g ≤ 49 → n ≡ length f + length g - 1 → e ≡ [] → Resized 48 e n sum → Multiplying m f g 0 sum
   multiply_starts {f} {g} {e} {sum} {n} room en ee z = record {
     size = omega (arith, z.size);
     proper = codes_by sum (λ i. ap (clip m) (zeros_null ee z i) ∙ Carrier.zero_counts l ∙ sym (zeros_null ee z i));

@@ -74,7 +74,7 @@ module _ {m : Meaning} (l : Laws m) where
   whole : (c : ℕ) (g : List ℕ) {r : List ℕ} → length g < 48 → r ≡ take 48 (codes (raised m c g)) → (elems m r ≡ lifted (ops m) (elem m c) (elems m g)) × (length r ≡ suc (length g))
   whole c g {r} h e =
       let n = length_raised l c g in
-      let e' : r ≡ codes (raised m c g) = e ∙ uncut (raised m c g) (omega arith) in
+      let e' : r ≡ codes (raised m c g) = e ∙ uncut 48 (raised m c g) (omega arith) in
       (ap (elems m) e' ∙ Carrier.elems_codes _, ap length e' ∙ length-map (raised m c g) (λ (x : Elem m). x.code) ∙ n)
 
   -- A sum of multiples, in elements, and how long it is.

@@ -33,12 +33,12 @@ module _ {F : Type 0} {o : field.Ops F} (l : field.Laws o) where
   pub coef_raised : (c : F) (g : List F) (i : ℕ) → coef o (plus o (scale o c g) (shift o g)) i ≡ o.add (o.mul c (coef o g i)) (coef o (shift o g) i)
   coef_raised c g i = Multiplication.coef_plus l (scale o c g) (shift o g) i ∙ ap (λ w. o.add w (coef o (shift o g) i)) (Multiplication.coef_scale l c g i)
 
-pub record Combining (m : Meaning) (c d n : ℕ) (before g : List ℕ) (i len : ℕ) (cells : List ℕ) : Type 0 where
-  pub filling : Filling (combined m c (take n before) d g) before i cells
+pub record Combining (cap : ℕ) (m : Meaning) (c d n : ℕ) (before g : List ℕ) (i len : ℕ) (cells : List ℕ) : Type 0 where
+  pub filling : Filling cap (combined m c (take n before) d g) before i cells
   pub kept : len ≡ n
 
-pub record Raising (m : Meaning) (c n : ℕ) (before : List ℕ) (i below len : ℕ) (cells : List ℕ) : Type 0 where
-  pub filling : Filling (raised m c (take n before)) before i cells
+pub record Raising (cap : ℕ) (m : Meaning) (c n : ℕ) (before : List ℕ) (i below len : ℕ) (cells : List ℕ) : Type 0 where
+  pub filling : Filling cap (raised m c (take n before)) before i cells
   pub kept : len ≡ n
   pub counts : clip m below ≡ below
   pub is : elem m below ≡ coef (ops m) (shift (ops m) (elems m (take n before))) i
@@ -53,15 +53,15 @@ module _ {m : Meaning} (l : Laws m) where
   length_is c d f g = length_combined laws (elem m c) (elem m d) (elems m f) (elems m g) ∙ omega (arith, length-map f (elem m), length-map g (elem m))
 
   -- Before the first coefficient of a sum of multiples.
-  pub combine_starts : {c d n : ℕ} {before g : List ℕ} → length before ≡ 48 → Combining m c d n before g 0 n before
+  pub combine_starts : {cap c d n : ℕ} {before g : List ℕ} → length before ≡ cap → Combining cap m c d n before g 0 n before
   combine_starts h = record { filling = unfilled h; kept = refl }
 
   -- One coefficient more.
-  pub combine_goes_on : {c d i n k len a b p q y : ℕ} {before g cells : List ℕ} → k ≡ max (length (take n before)) (length g)
-      → i < k → i < 48 → Combining m c d n before g i len cells
+  pub combine_goes_on : {cap c d i n k len a b p q y : ℕ} {before g cells : List ℕ} → k ≡ max (length (take n before)) (length g)
+      → i < k → i < cap → Combining cap m c d n before g i len cells
       → a ≡ get_or (take len cells) i 0 → p ≡ m.product (clip m c) (clip m a) → b ≡ get_or g i 0 → q ≡ m.product (clip m d) (clip m b)
-      → y ≡ m.sum (clip m p) (clip m q) → Combining m c d n before g (i + 1) len (set cells i y)
-  combine_goes_on {c} {d} {i} {n} {k} {len} {a} {b} {p} {q} {y} {before} {g} {cells} ek h few held ea ep eb eq ey =
+      → y ≡ m.sum (clip m p) (clip m q) → Combining cap m c d n before g (i + 1) len (set cells i y)
+  combine_goes_on {cap} {c} {d} {i} {n} {k} {len} {a} {b} {p} {q} {y} {before} {g} {cells} ek h few held ea ep eb eq ey =
       let e0 : a ≡ get_or (take n before) i 0 = ea ∙ ap (λ z. get_or (take z cells) i 0) held.kept ∙ same_cell n before cells i (held.filling.old i (omega arith)) in
       let e1 = Carrier.multiplies m c a ep in
       let e2 = Carrier.multiplies m d b eq in
@@ -76,9 +76,9 @@ module _ {m : Meaning} (l : Laws m) where
       }
 
   -- After the last one.
-  pub combine_ends : {c d i n k len : ℕ} {before g cells : List ℕ} → k ≡ max (length (take n before)) (length g) → k ≤ i → i ≤ k
-      → Combining m c d n before g i len cells → take k cells ≡ codes (combined m c (take n before) d g)
-  combine_ends {c} {d} {i} {n} {k} {len} {before} {g} {cells} ek h h' held =
+  pub combine_ends : {cap c d i n k len : ℕ} {before g cells : List ℕ} → k ≡ max (length (take n before)) (length g) → k ≤ i → i ≤ k
+      → Combining cap m c d n before g i len cells → take k cells ≡ codes (combined m c (take n before) d g)
+  combine_ends {cap} {c} {d} {i} {n} {k} {len} {before} {g} {cells} ek h h' held =
       let e : k ≡ i = omega arith in
       ap (λ z. take z cells) e ∙ filled (omega (arith, length_is c d (take n before) g)) held.filling
 
@@ -89,14 +89,14 @@ module _ {m : Meaning} (l : Laws m) where
       ∙ omega (arith, length-map (elems m g) ((ops m).mul ((ops m).neg (elem m c))), length-map (elems m g) (ops m).twist, length-map g (elem m))
 
   -- Before the first coefficient of (x - c) × g.
-  pub raise_starts : {c n : ℕ} {before : List ℕ} → length before ≡ 48 → Raising m c n before 0 0 n before
+  pub raise_starts : {cap c n : ℕ} {before : List ℕ} → length before ≡ cap → Raising cap m c n before 0 0 n before
   raise_starts h = record { filling = unfilled h; kept = refl; counts = Carrier.zero_counts l; is = Carrier.zero_is m }
 
   -- One coefficient more.
-  pub raise_goes_on : {c d i n len p y below below' : ℕ} {before cells : List ℕ} → n ≤ 48 → length before ≡ 48 → d ≡ m.opposite (clip m c) → i < n → Raising m c n before i below len cells
+  pub raise_goes_on : {cap c d i n len p y below below' : ℕ} {before cells : List ℕ} → n ≤ cap → length before ≡ cap → d ≡ m.opposite (clip m c) → i < n → Raising cap m c n before i below len cells
       → p ≡ m.product (clip m d) (clip m (get_or cells i 0)) → y ≡ m.sum (clip m p) (clip m below)
-      → below' ≡ m.twist (clip m (get_or cells i 0)) → Raising m c n before (i + 1) below' len (set cells i y)
-  raise_goes_on {c} {d} {i} {n} {len} {p} {y} {below} {below'} {before} {cells} few size ed h r ep ey eb =
+      → below' ≡ m.twist (clip m (get_or cells i 0)) → Raising cap m c n before (i + 1) below' len (set cells i y)
+  raise_goes_on {cap} {c} {d} {i} {n} {len} {p} {y} {below} {below'} {before} {cells} few size ed h r ep ey eb =
       let g = take n before in
       let x = get_or cells i 0 in
       let ex : x ≡ get_or g i 0 = r.filling.old i (omega arith) ∙ sym (get_or-take n before i 0 h) in
@@ -118,9 +118,9 @@ module _ {m : Meaning} (l : Laws m) where
       }
 
   -- The last one is the twisted highest coefficient of g.
-  pub raise_ends : {c i n len below : ℕ} {before cells out : List ℕ} → n ≤ 48 → length before ≡ 48 → n ≤ i → i ≤ n → Raising m c n before i below len cells
-      → out ≡ take 48 (take len cells ++ below ∷ []) → out ≡ take 48 (codes (raised m c (take n before)))
-  raise_ends {c} {i} {n} {len} {below} {before} {cells} {out} few size h h' r eo =
+  pub raise_ends : {cap c i n len below : ℕ} {before cells out : List ℕ} → n ≤ cap → length before ≡ cap → n ≤ i → i ≤ n → Raising cap m c n before i below len cells
+      → out ≡ take cap (take len cells ++ below ∷ []) → out ≡ take cap (codes (raised m c (take n before)))
+  raise_ends {cap} {c} {i} {n} {len} {below} {before} {cells} {out} few size h h' r eo =
       let o = ops m in
       let g = take n before in
       let k = coef_raised laws (o.neg (elem m c)) (elems m g) i in
@@ -131,6 +131,6 @@ module _ {m : Meaning} (l : Laws m) where
       let e : elem m below ≡ coef o (raised m c g) i = cc in
       let j : len ≡ i = omega (arith, r.kept) in
       let size' = length-map (raised m c g) (λ (x : Elem m). x.code) in
-      eo ∙ ap (λ v. take 48 (take v cells ++ below ∷ [])) j ∙ ap (λ v. take 48 (v ++ below ∷ [])) r.filling.new
-      ∙ ap (take 48) (next_code o.zero (raised m c g) i (omega (arith, length_raised c g, length-take n before)) (Carrier.answers _ r.counts e)
+      eo ∙ ap (λ v. take cap (take v cells ++ below ∷ [])) j ∙ ap (λ v. take cap (v ++ below ∷ [])) r.filling.new
+      ∙ ap (take cap) (next_code o.zero (raised m c g) i (omega (arith, length_raised c g, length-take n before)) (Carrier.answers _ r.counts e)
       ∙ take_all (i + 1) (codes (raised m c g)) (omega (arith, length_raised c g, size', length-take n before)))

@@ -21,7 +21,8 @@ use Rattle.fields.specs.Basics.{ring}
 use Rattle.fields.proofs.Carrier
 use Rattle.skew.specs.Values.{twisted}
 use Rattle.skew.specs.Products.{coef, coefficient, Below}
-use Rattle.skew.specs.Polynomials.{Codes, Resized}
+use Rattle.skew.specs.Polynomials.{Codes}
+use Rattle.skew.specs.Few.{Resized}
 use Rattle.skew.specs.Quotients.{Divided, Leads, Untwisted, Subtracted}
 use Rattle.skew.proofs.Multiplication
 use Rattle.skew.proofs.Division
@@ -40,23 +41,23 @@ push_last [] x (suc i) h = absurd (omega arith)
 push_last (y ∷ xs) x ℕ.zero h = absurd (omega arith)
 push_last (y ∷ xs) x (suc i) h = push_last xs x i (omega arith)
 
-pub record Resizing (f : List ℕ) (i : ℕ) (out : List ℕ) : Type 0 where
-  pub size : length out ≡ min i 48
+pub record Resizing (cap : ℕ) (f : List ℕ) (i : ℕ) (out : List ℕ) : Type 0 where
+  pub size : length out ≡ min i cap
   pub same : (l : ℕ) → l < length out → get_or out l 0 ≡ get_or f l 0
 
 -- Before the first coefficient.
-pub resize_starts : {f out : List ℕ} → out ≡ [] → Resizing f 0 out
-resize_starts {f} {out} e = record { size = ap length e; same = λ l h. absurd (omega (arith, ap length e)) }
+pub resize_starts : {cap : ℕ} {f out : List ℕ} → out ≡ [] → Resizing cap f 0 out
+resize_starts {f = f} {out = out} e = record { size = omega (arith, ap length e); same = λ l h. absurd (omega (arith, ap length e)) }
 
 -- One coefficient more, as far as there is room.
-pub resize_goes_on : {f out out' : List ℕ} {i x : ℕ} → Resizing f i out → x ≡ get_or f i 0 → out' ≡ take 48 (out ++ x ∷ []) → Resizing f (i + 1) out'
-resize_goes_on {f} {out} {out'} {i} {x} r ex eo = record { size = omega (arith, n, r.size); same = same }
+pub resize_goes_on : {cap : ℕ} {f out out' : List ℕ} {i x : ℕ} → Resizing cap f i out → x ≡ get_or f i 0 → out' ≡ take cap (out ++ x ∷ []) → Resizing cap f (i + 1) out'
+resize_goes_on {cap} {f} {out} {out'} {i} {x} r ex eo = record { size = omega (arith, n, r.size); same = same }
   where
-    n : length out' ≡ min 48 (length out + 1)
-    n = ap length eo ∙ length-take 48 (out ++ x ∷ []) ∙ ap (min 48) (length_push out x)
+    n : length out' ≡ min cap (length out + 1)
+    n = ap length eo ∙ length-take cap (out ++ x ∷ []) ∙ ap (min cap) (length_push out x)
 
-    at : (l : ℕ) → l < 48 → get_or out' l 0 ≡ get_or (out ++ x ∷ []) l 0
-    at l h = ap (λ z. get_or z l 0) eo ∙ get_or-take 48 (out ++ x ∷ []) l 0 h
+    at : (l : ℕ) → l < cap → get_or out' l 0 ≡ get_or (out ++ x ∷ []) l 0
+    at l h = ap (λ z. get_or z l 0) eo ∙ get_or-take cap (out ++ x ∷ []) l 0 h
 
     same : (l : ℕ) → l < length out' → get_or out' l 0 ≡ get_or f l 0
     same l h = elim (cases_lt l (length out)) [
@@ -67,7 +68,7 @@ resize_goes_on {f} {out} {out'} {i} {x} r ex eo = record { size = omega (arith, 
     ]
 
 -- After the last one.
-pub resize_ends : {f out : List ℕ} {i n : ℕ} → n ≤ i → i ≤ n → Resizing f i out → Resized f n out
+pub resize_ends : {cap : ℕ} {f out : List ℕ} {i n : ℕ} → n ≤ i → i ≤ n → Resizing cap f i out → Resized cap f n out
 resize_ends h k r = record { size = omega (arith, r.size); same = r.same }
 
 pub record Clear (m : Meaning) (f : List ℕ) (i : ℕ) : Type 0 where
@@ -194,7 +195,7 @@ module _ {m : Meaning} (l : Laws m) where
       ]
 
   -- A list of zeros, and the sums that it makes.
-  zeros_null : {e out : List ℕ} {k : ℕ} → e ≡ [] → Resized e k out → (i : ℕ) → get_or out i 0 ≡ 0
+  zeros_null : {e out : List ℕ} {k : ℕ} → e ≡ [] → Resized 48 e k out → (i : ℕ) → get_or out i 0 ≡ 0
   zeros_null {e} {out} {k} ee z i = elim (cases_lt i (length out)) [ inl h ↦ z.same i h ∙ ap (λ y. get_or y i 0) ee | inr h ↦ get_or_past out i 0 h ]
 
   -- A list is in codes exactly where each of its numbers counts as itself.
@@ -209,7 +210,7 @@ module _ {m : Meaning} (l : Laws m) where
   counted_by (x ∷ f) h (suc i) = counted_by f (ap (drop 1) h) i
 
   -- Before the first turn out is zero, and the rest is the dividend.
-  pub divide_starts : {n p rest e out : List ℕ} {d k : ℕ} → d + k ≤ 48 → Resized n (d + k) rest → e ≡ [] → Resized e k out → Dividing m n p d k k rest out
+  pub divide_starts : {n p rest e out : List ℕ} {d k : ℕ} → d + k ≤ 48 → Resized 48 n (d + k) rest → e ≡ [] → Resized 48 e k out → Dividing m n p d k k rest out
   divide_starts {n} {p} {rest} {e} {out} {d} {k} room a ee z = record {
     size_rest = omega (arith, a.size);
     size_out = omega (arith, z.size);

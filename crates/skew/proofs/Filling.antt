@@ -1,13 +1,14 @@
--- Polynomials of fixed capacity: what `push` and `put` do to the cells, and cells that are filled anew from the first on.
+-- Lists of fixed capacity: what `push` and `put` do to the cells, lists that are filled from the front, and cells that are
+-- filled anew from the first on.
 --
---   Filling X before i cells    the first i cells have the first i codes of X, and the others are as before
-use Rattle.std.proofs.Common.{◌≡◌, ℕ, suc, ◌+◌, ◌<◌, ◌≤◌, List, [], ◌∷◌, ◌++◌, length, get_or, take, set, sym, refl, ap, ◌∙◌, inl, inr, arith, length-set, get_or-set_other}
+--   Filling cap X before i cells    the first i cells have the first i codes of X, and the others are as before
+use Rattle.std.proofs.Common.{◌≡◌, ℕ, suc, ◌+◌, ◌<◌, ◌≤◌, List, [], ◌∷◌, ◌++◌, length, get_or, take, set, sym, refl, ap, ◌∙◌, inl, inr, arith, length-set, get_or-set_other, append_assoc, append-nil}
 use Rattle.std.proofs.lemmas.List.{length-map}
 use Rattle.std.proofs.lemmas.List.{take_more, take_more_set, take_all, take_at, length-take, length-take-le, length_push, get_or-map, get_or-take, get_or_past}
 use Rattle.std.proofs.lemmas.Bool.{cases_lt}
 use Rattle.fields.specs.Elements.{Element, codes}
-use Rattle.skew.specs.declared.polynomial.Polynomial.{Polynomial}
-use Rattle.skew.specs.Polynomials.{coefficients}
+use Rattle.skew.specs.declared.few.Few.{Few}
+use Rattle.skew.specs.Few.{held}
 
 -- To cut twice is to cut once.
 pub take_cut : {A : Type 0} (n : ℕ) (xs ys : List A) → take n (take n xs ++ ys) ≡ take n (xs ++ ys)
@@ -15,43 +16,55 @@ take_cut ℕ.zero xs ys = refl
 take_cut (suc n) [] ys = refl
 take_cut (suc n) (x ∷ xs) ys = ap (λ zs. x ∷ zs) (take_cut n xs ys)
 
--- What `push` does to the cells.
-pub pushed : (cells : List ℕ) (n x : ℕ) → length cells ≡ 48 → n < 48 → take (n + 1) (set cells n x) ≡ take 48 (take n cells ++ x ∷ [])
-pushed cells n x len h =
-    take_more_set cells n x (omega arith) ∙ sym (take_all 48 (take n cells ++ x ∷ []) (omega (arith, length_push (take n cells) x, length-take n cells)))
+module _ {A : Type 0} (cap : ℕ) where
+  -- One more behind those in use.
+  pub pushed : (cells : List A) (n : ℕ) (x : A) → length cells ≡ cap → n < cap → take (n + 1) (set cells n x) ≡ take cap (take n cells ++ x ∷ [])
+  pushed cells n x len h =
+      take_more_set cells n x (omega arith) ∙ sym (take_all cap (take n cells ++ x ∷ []) (omega (arith, length_push (take n cells) x, length-take n cells)))
 
--- The first i numbers of a list, and one more.
-pub copied : (f : List ℕ) {out out' : List ℕ} {i : ℕ} → length f ≤ 48 → i < length f → out ≡ take i f → out' ≡ take 48 (out ++ get_or f i 0 ∷ []) → out' ≡ take (i + 1) f
-copied f {out} {out'} {i} few h e eo =
-    eo ∙ ap (λ z. take 48 (z ++ get_or f i 0 ∷ [])) e ∙ ap (take 48) (sym (take_more f i 0 h)) ∙ take_all 48 (take (i + 1) f) (omega (arith, length-take (i + 1) f))
+  -- Where there is no room nothing changes.
+  pub full : (cells : List A) (n : ℕ) (x : A) → length cells ≡ cap → cap ≤ n → take n cells ≡ take cap (take n cells ++ x ∷ [])
+  full cells n x len h = t ∙ sym (ap (λ ys. take cap (ys ++ x ∷ [])) t ∙ take_at cells (x ∷ []) cap len)
+    where
+      t : take n cells ≡ cells
+      t = take_all n cells (omega arith)
 
--- Where there is no room nothing changes.
-pub full : (cells : List ℕ) (n x : ℕ) → length cells ≡ 48 → 48 ≤ n → take n cells ≡ take 48 (take n cells ++ x ∷ [])
-full cells n x len h = t ∙ sym (ap (λ ys. take 48 (ys ++ x ∷ [])) t ∙ take_at cells (x ∷ []) 48 len)
-  where
-    t : take n cells ≡ cells
-    t = take_all n cells (omega arith)
+  -- The first i of a list that fits, and one more.
+  pub copied : (f : List A) (d : A) {out out' : List A} {i : ℕ} {x : A} → length f ≤ cap → i < length f → out ≡ take i f → x ≡ get_or f i d → out' ≡ take cap (out ++ x ∷ []) → out' ≡ take (i + 1) f
+  copied f d {out} {out'} {i} {x} few h e ex eo =
+      eo ∙ ap (λ z. take cap (z ++ x ∷ [])) e ∙ ap (λ y. take cap (take i f ++ y ∷ [])) ex ∙ ap (take cap) (sym (take_more f i d h))
+      ∙ take_all cap (take (i + 1) f) (omega (arith, length-take (i + 1) f))
+
+  -- Behind what stands there already: nothing yet, and one of the new ones more.
+  pub appended_none : (before : List A) → length before ≤ cap → before ≡ take cap (before ++ [])
+  appended_none before few = sym (ap (take cap) (append-nil before) ∙ take_all cap before few)
+
+  pub appended_more : (before new : List A) (d : A) {out out' : List A} {i : ℕ} {x : A} → i < length new → out ≡ take cap (before ++ take i new) → x ≡ get_or new i d → out' ≡ take cap (out ++ x ∷ [])
+      → out' ≡ take cap (before ++ take (i + 1) new)
+  appended_more before new d {out} {out'} {i} {x} h e ex eo =
+      eo ∙ ap (λ z. take cap (z ++ x ∷ [])) e ∙ take_cut cap (before ++ take i new) (x ∷ []) ∙ ap (take cap) (append_assoc before (take i new) (x ∷ []))
+      ∙ ap (λ y. take cap (before ++ (take i new ++ y ∷ []))) ex ∙ ap (λ z. take cap (before ++ z)) (sym (take_more new i d h))
 
 -- What `put` does to the cells, and past the end.
-pub put_is : (n : ℕ) (cells : List ℕ) (i x : ℕ) → i < n → take n (set cells i x) ≡ set (take n cells) i x
+pub put_is : {A : Type 0} (n : ℕ) (cells : List A) (i : ℕ) (x : A) → i < n → take n (set cells i x) ≡ set (take n cells) i x
 put_is ℕ.zero cells i x h = absurd (omega arith)
 put_is (suc n) [] i x h = refl
 put_is (suc n) (c ∷ cells) ℕ.zero x h = refl
 put_is (suc n) (c ∷ cells) (suc i) x h = ap (λ zs. c ∷ zs) (put_is n cells i x (omega arith))
 
 -- Past the end nothing is put.
-pub put_past : (xs : List ℕ) (i x : ℕ) → length xs ≤ i → xs ≡ set xs i x
+pub put_past : {A : Type 0} (xs : List A) (i : ℕ) (x : A) → length xs ≤ i → xs ≡ set xs i x
 put_past [] i x h = refl
 put_past (c ∷ xs) ℕ.zero x h = absurd (omega arith)
 put_past (c ∷ xs) (suc i) x h = ap (λ zs. c ∷ zs) (put_past xs i x (omega arith))
 
--- No polynomial has more than 48 coefficients.
-pub short : (p : Polynomial) → length (coefficients p) ≤ 48
+-- No list holds more than its capacity.
+pub short : {A : Type 0} {N : ℕ} (p : Few A N) → length (held p) ≤ N
 short p = omega (arith, length-take p.len p.cells, p.fits)
 
--- A polynomial has as many coefficients as it says.
-pub long : (p : Polynomial) → length p.cells ≡ 48 → length (coefficients p) ≡ p.len
-long p h = length-take-le p.len p.cells (omega (arith, p.fits))
+-- A list holds as many as it says.
+pub long : {A : Type 0} {N : ℕ} (p : Few A N) → length (held p) ≡ p.len
+long p = length-take-le p.len p.cells (omega (arith, p.fits, p.whole))
 
 -- A coefficient is the same where its cell is.
 pub same_cell : (n : ℕ) (before cells : List ℕ) (i : ℕ) → get_or cells i 0 ≡ get_or before i 0 → get_or (take n cells) i 0 ≡ get_or (take n before) i 0
@@ -60,14 +73,14 @@ same_cell n before cells i e = elim (cases_lt i n) [
   | inr h ↦ get_or_past (take n cells) i 0 (omega (arith, length-take n cells)) ∙ sym (get_or_past (take n before) i 0 (omega (arith, length-take n before)))
 ]
 
-pub record Filling {n : ℕ} (X : List (Element n)) (before : List ℕ) (i : ℕ) (cells : List ℕ) : Type 0 where
-  pub size : length cells ≡ 48
+pub record Filling (cap : ℕ) {n : ℕ} (X : List (Element n)) (before : List ℕ) (i : ℕ) (cells : List ℕ) : Type 0 where
+  pub size : length cells ≡ cap
   pub new : take i cells ≡ take i (codes X)
   pub old : (l : ℕ) → i ≤ l → get_or cells l 0 ≡ get_or before l 0
 
 module _ {n : ℕ} where
   -- No cell yet.
-  pub unfilled : {X : List (Element n)} {before : List ℕ} → length before ≡ 48 → Filling X before 0 before
+  pub unfilled : {cap : ℕ} {X : List (Element n)} {before : List ℕ} → length before ≡ cap → Filling cap X before 0 before
   unfilled h = record { size = h; new = refl; old = λ l k. refl }
 
   -- The codes of X, and one more.
@@ -77,18 +90,18 @@ module _ {n : ℕ} where
       ap (λ z. take i (codes X) ++ z ∷ []) (e ∙ sym c) ∙ sym (take_more (codes X) i 0 (omega (arith, length-map X (λ (x : Element n). x.code))))
 
   -- One cell more.
-  pub fill : (d : Element n) {X : List (Element n)} {before cells : List ℕ} {i y : ℕ} → i < length X → i < 48 → Filling X before i cells → y ≡ (get_or X i d).code
-      → Filling X before (i + 1) (set cells i y)
-  fill d {X} {before} {cells} {i} {y} h k f e = record {
+  pub fill : {cap : ℕ} (d : Element n) {X : List (Element n)} {before cells : List ℕ} {i y : ℕ} → i < length X → i < cap → Filling cap X before i cells → y ≡ (get_or X i d).code
+      → Filling cap X before (i + 1) (set cells i y)
+  fill {cap} d {X} {before} {cells} {i} {y} h k f e = record {
     size = length-set cells i y ∙ f.size;
     new = take_more_set cells i y (omega (arith, f.size)) ∙ ap (λ z. z ++ y ∷ []) f.new ∙ next_code d X i h e;
     old = λ l g. get_or-set_other cells i l y 0 (λ q. omega (arith, q)) ∙ f.old l (omega arith);
   }
 
   -- All of them.
-  pub filled : {X : List (Element n)} {before cells : List ℕ} {i : ℕ} → length X ≤ i → Filling X before i cells → take i cells ≡ codes X
-  filled {X} {before} {cells} {i} h f = f.new ∙ take_all i (codes X) (omega (arith, length-map X (λ (x : Element n). x.code)))
+  pub filled : {cap : ℕ} {X : List (Element n)} {before cells : List ℕ} {i : ℕ} → length X ≤ i → Filling cap X before i cells → take i cells ≡ codes X
+  filled {cap} {X} {before} {cells} {i} h f = f.new ∙ take_all i (codes X) (omega (arith, length-map X (λ (x : Element n). x.code)))
 
   -- What fits is not cut.
-  pub uncut : (X : List (Element n)) → length X ≤ 48 → take 48 (codes X) ≡ codes X
-  uncut X h = take_all 48 (codes X) (omega (arith, length-map X (λ (x : Element n). x.code)))
+  pub uncut : (cap : ℕ) (X : List (Element n)) → length X ≤ cap → take cap (codes X) ≡ codes X
+  uncut cap X h = take_all cap (codes X) (omega (arith, length-map X (λ (x : Element n). x.code)))

@@ -12,7 +12,7 @@ use Rattle.fields.specs.Elements.{Elem, element, elem, elems, codes, ops}
 use Rattle.fields.specs.Basics
 use Rattle.fields.proofs.Carrier
 use Rattle.skew.specs.declared.points.Point.{Point}
-use Rattle.skew.specs.declared.polynomial.Polynomial.{Polynomial}
+use Rattle.skew.specs.declared.few.Few.{Few}
 use Rattle.skew.specs.Values.{step, eval, value, eval_code}
 use Rattle.skew.specs.Roots.{Vanishes}
 use Rattle.skew.specs.Products.{coef, Product}
@@ -111,7 +111,7 @@ module _ {m : Meaning} (l : Laws m) where
 
   -- What `product` answers for the factor and g.
   pub grown_product : (g : List ℕ) (p : Point) {s k : List ℕ} {v c : ℕ} → s ≡ g → v ≡ eval_code m s p.parameter p.locator → Root m p.parameter v c → k ≡ codes (linear (ops m) (elem m c))
-      → (r : Option Polynomial) → MatchOption r (49 < length k + length g) (λ f. Multiplied m k g (coefficients f)) → MatchOption r (47 < length g) (λ f. Grown m g p (coefficients f))
+      → (r : Option (Few ℕ 48)) → MatchOption r (49 < length k + length g) (λ f. Multiplied m k g (coefficients f)) → MatchOption r (47 < length g) (λ f. Grown m g p (coefficients f))
   grown_product g p es ev r ek None h = omega (arith, ap length ek)
   grown_product g p es ev r ek (Some f) h = grown_more g p es ev r ek h
 

@@ -1,22 +1,22 @@
--- Polynomials of fixed capacity, and what is promised of those that functions answer.
+-- Polynomials, and what is promised of those that functions answer.
 --
 --   coefficients p         what a polynomial holds, as codes
 --   Codes m f              each number of f is a code
 --   combined m c f d g     c times f plus d times g
 --   raised m c g           (x - c) times g
 --   Added m p j c r s      s is r plus p × (c times the j-th power), as far as r reaches
---   Resized f n r          r has the first n coefficients of f, with zeros behind
 --   Multiplied m f g p     p is the product of f and g, in codes, no longer than their product can be
-use Rattle.std.specs.Prelude.{◌≡◌, ℕ, ◌+◌, ◌-◌, ◌<◌, ◌≤◌, min, List, ◌∷◌, map, length, take, slice_index}
+use Rattle.std.specs.Prelude.{◌≡◌, ℕ, ◌+◌, ◌-◌, ◌<◌, ◌≤◌, List, ◌∷◌, map, length, slice_index}
 use Rattle.fields.specs.Field.{plus, scale}
 use Rattle.fields.specs.Meaning.{Meaning}
 use Rattle.fields.specs.Elements.{Elem, elem, elems, codes, ops}
-use Rattle.skew.specs.declared.polynomial.Polynomial.{Polynomial}
+use Rattle.skew.specs.declared.few.Few.{Few}
+use Rattle.skew.specs.Few.{held}
 use Rattle.skew.specs.Values.{twisted}
 use Rattle.skew.specs.Products.{coef, Product}
 
-abbrev pub coefficients : Polynomial → List ℕ
-coefficients p = take p.len p.cells
+abbrev pub coefficients : Few ℕ 48 → List ℕ
+coefficients p = held p
 
 abbrev pub Codes : Meaning → List ℕ → Type 0
 Codes m f = codes (elems m f) ≡ f
@@ -32,11 +32,6 @@ pub record Multiplied (m : Meaning) (f g p : List ℕ) : Type 0 where
   pub proper : Codes m p
   pub size : length p ≤ length f + length g - 1
   pub product : Product (ops m) (elems m f) (elems m g) (elems m p)
-
--- r has the first n coefficients of f, and zeros where f has fewer, as far as there is room.
-pub record Resized (f : List ℕ) (n : ℕ) (r : List ℕ) : Type 0 where
-  pub size : length r ≡ min n 48
-  pub same : (l : ℕ) → l < length r → slice_index r l ≡ slice_index f l
 
 pub record Added (m : Meaning) (p : List ℕ) (j c : ℕ) (r s : List ℕ) : Type 0 where
   pub size : length s ≡ length r
