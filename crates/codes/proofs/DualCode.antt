@@ -22,7 +22,7 @@ use Rattle.sheets.specs.Sheets.{Text, spelled}
 use Rattle.codes.specs.Fitness.{pointed, route}
 use Rattle.codes.specs.Writing.{Described}
 use Rattle.codes.specs.Dualizing.{turned_points, dual_text, Dualized, DualSheet, Undual}
-use Rattle.codes.proofs.Filling.{copied}
+use Rattle.skew.proofs.Filling.{copied}
 use Rattle.codes.proofs.SheetWriting.{many, size, count}
 
 module _ {F : Type 0} (o : Ops F) where

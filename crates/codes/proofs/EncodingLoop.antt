@@ -9,7 +9,7 @@ use Rattle.skew.specs.Values.{value_code}
 use Rattle.skew.specs.Roots.{at}
 use Rattle.skew.specs.Annihilators.{place, places}
 use Rattle.skew.specs.Interpolation.{values}
-use Rattle.codes.proofs.Filling.{copied}
+use Rattle.skew.proofs.Filling.{copied}
 
 module _ (m : Meaning) (f : List ℕ) (ps : List Point) where
   abbrev pub row : List ℕ

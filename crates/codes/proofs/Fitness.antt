@@ -15,9 +15,9 @@ use Rattle.sheets.specs.declared.faults.Reason.TheVariants.{NoCode}
 use Rattle.sheets.specs.declared.faults.Reason.TheVariants as reason
 use Rattle.sheets.specs.declared.sections.Section.{Section}
 use Rattle.sheets.specs.declared.sections.Section.TheVariants.{Lengths, Parameters, Locators}
-use Rattle.codes.specs.declared.route.Course.{Course}
+use Rattle.skew.specs.declared.few.Few.{Few}
+use Rattle.skew.specs.declared.points.Point.{Point}
 use Rattle.codes.specs.declared.shape.Code.{Code}
-use Rattle.codes.specs.declared.symbols.Symbols.{Symbols}
 use Rattle.sheets.specs.declared.sheets.Sheet.{Sheet}
 use Rattle.codes.specs.Holdings.{held, stops}
 use Rattle.sheets.specs.Sections.{part_of, offset_of, Part, view, lengths, parameters, locators}
@@ -161,10 +161,6 @@ made {m} l s c w {ls} {ps} {xs} el ep ex a apart g ei ed =
       };
     }
 
--- A course is as long as it says.
-pub course_length : (q : Course) → length (stops q) ≡ q.len
-course_length q = length-take q.len q.cells ∙ omega (arith, q.fits, q.whole)
-
 -- Each length keeps its limits.
 length_at : (ls : List ℕ) → AllByRecursion Length ls → (i : ℕ) → i < length ls → (1 ≤ get_or ls i 0) × (get_or ls i 0 ≤ 8)
 length_at [] a i h = absurd (omega arith)
@@ -172,14 +168,14 @@ length_at (n ∷ ls) a ℕ.zero h = a.0
 length_at (n ∷ ls) a (suc i) h = length_at ls a.1 i (omega arith)
 
 -- The code of a sheet keeps the limits of a sheet.
-pub within : {m : Meaning} (s : Sheet) (q : Course) (h : Symbols) → Whole (text_of s).dimension (text_of s).blocks (text_of s).parameters (text_of s).locators
+pub within : {m : Meaning} (s : Sheet) (q : Few Point 24) (h : Few ℕ 24) → Whole (text_of s).dimension (text_of s).blocks (text_of s).parameters (text_of s).locators
     → {ls ps xs : List ℕ} → ls ≡ part_of s.lengths → ps ≡ part_of s.parameters → xs ≡ part_of s.locators → Gathered m ls ps xs (stops q) → held h ≡ ls
-    → (1 ≤ s.dimension) × (s.dimension ≤ q.len) × (length (held h) ≤ 12) × ((i : ℕ) → i < length (held h) → (1 ≤ get_or (held h) i 0) × (get_or (held h) i 0 ≤ 8)) × (total (held h) ≡ q.len)
+    → (1 ≤ s.dimension) × (s.dimension ≤ length (stops q)) × (length (held h) ≤ 12) × ((i : ℕ) → i < length (held h) → (1 ≤ get_or (held h) i 0) × (get_or (held h) i 0 ≤ 8)) × (total (held h) ≡ length (stops q))
 within s q h w {ls} {ps} {xs} el ep ex g eh =
     let hl : held h ≡ part_of s.lengths = eh ∙ el in
     let many : length ps ≡ length ls = ap length ep ∙ w.as_many_parameters ∙ sym (ap length el) in
     let size : length xs ≡ total ls = ap length ex ∙ w.as_many_locators ∙ sum_total (part_of s.lengths) ∙ sym (ap total el) in
-    let n : q.len ≡ total ls = sym (course_length q) ∙ ap length g.all ∙ route_size ls ps xs many (omega arith) in (
+    let n : length (stops q) ≡ total ls = ap length g.all ∙ route_size ls ps xs many (omega arith) in (
       w.opens.least,
       omega (arith, w.opens.most, sum_total (part_of s.lengths), ap total el),
       omega (arith, ap length hl, w.opens.blocks.1),

@@ -1,4 +1,4 @@
--- Lists of symbols of fixed capacity: what `push` does to the cells, and a list that is filled from the front.
+-- A list of symbols that is filled from the front.
 --
 --   Filling X i s    s holds the codes of the first i elements of X, as far as there is room
 use Rattle.std.proofs.Common.{◌≡◌, ℕ, ◌+◌, ◌<◌, ◌≤◌, List, [], ◌∷◌, ◌++◌, length, get_or, take, set, sym, ap, ◌∙◌, arith}
@@ -6,18 +6,6 @@ use Rattle.std.proofs.lemmas.List.{length-map}
 use Rattle.std.proofs.lemmas.List.{take_more, take_more_set, take_all, take_at, length-take, length_push, get_or-map}
 use Rattle.fields.specs.Elements.{Element, codes}
 use Rattle.skew.proofs.Filling.{take_cut}
-
--- What `push` does to the cells.
-pub pushed : (cells : List ℕ) (n x : ℕ) → length cells ≡ 24 → n < 24 → take (n + 1) (set cells n x) ≡ take 24 (take n cells ++ x ∷ [])
-pushed cells n x len h =
-    take_more_set cells n x (omega arith) ∙ sym (take_all 24 (take n cells ++ x ∷ []) (omega (arith, length_push (take n cells) x, length-take n cells)))
-
--- Where there is no room nothing changes.
-pub full : (cells : List ℕ) (n x : ℕ) → length cells ≡ 24 → 24 ≤ n → take n cells ≡ take 24 (take n cells ++ x ∷ [])
-full cells n x len h = t ∙ sym (ap (λ ys. take 24 (ys ++ x ∷ [])) t ∙ take_at cells (x ∷ []) 24 len)
-  where
-    t : take n cells ≡ cells
-    t = take_all n cells (omega arith)
 
 pub record Filling {n : ℕ} (X : List (Element n)) (i : ℕ) (p : List ℕ) : Type 0 where
   pub held : p ≡ take 24 (take i (codes X))

@@ -1,4 +1,3 @@
-pub mod Filling
 pub mod Holding
 pub mod EncodingLoop
 pub mod Reading

@@ -11,7 +11,8 @@ use Rattle.fields.specs.Meaning.{Meaning, Laws, clip}
 use Rattle.fields.specs.Elements.{Elem, elem, elems, codes, ops}
 use Rattle.fields.proofs.Carrier
 use Rattle.skew.specs.Products.{coef}
-use Rattle.skew.specs.Polynomials.{Codes, Resized}
+use Rattle.skew.specs.Polynomials.{Codes}
+use Rattle.skew.specs.Few.{Resized}
 use Rattle.skew.specs.Interpolation.{values, Unlawful, Interpolated}
 use Rattle.skew.proofs.Values.{eval_value}
 use Rattle.skew.proofs.Evaluation
@@ -82,7 +83,7 @@ module _ {m : Meaning} (l : Laws m) where
         n (e ∙ zero_there f has.proper i (sym (only_coefs law word.0 word.1 i) ∙ get_or_past word.0 i (ops m).zero (omega (arith, word.1.0))))
 
     -- Where all of them are 0, the first k coefficients are the message.
-    module _ (r : List ℕ) (cut : Resized f c.dimension r) (few : length (stops c.course) ≤ 24) (clear : (j : ℕ) → c.dimension ≤ j → j < length (stops c.course) → get_or f j 0 ≡ 0) where
+    module _ (r : List ℕ) (cut : Resized 48 f c.dimension r) (few : length (stops c.course) ≤ 24) (clear : (j : ℕ) → c.dimension ≤ j → j < length (stops c.course) → get_or f j 0 ≡ 0) where
       same_at : c.dimension ≤ length (stops c.course) → (i : ℕ) → get_or r i 0 ≡ get_or f i 0
       same_at most i =
           elim (cases_lt i (length r)) [

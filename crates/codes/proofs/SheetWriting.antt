@@ -13,7 +13,7 @@ use Rattle.sheets.specs.Sheets.{Text, Length, spelled}
 use Rattle.codes.specs.Fitness.{pointed, route}
 use Rattle.codes.specs.Writing.{Described}
 use Rattle.skew.proofs.Filling.{take_cut}
-use Rattle.codes.proofs.Filling.{copied}
+use Rattle.skew.proofs.Filling.{copied}
 use Rattle.codes.proofs.Gathering.{total_split, total_more}
 use Rattle.codes.proofs.Fitness.{sum_total, route_size}
 

@@ -2,13 +2,13 @@
 --
 --   held s     the symbols that s holds
 --   stops c    the points that c holds
-use Rattle.std.specs.Prelude.{ℕ, List, take}
+use Rattle.std.specs.Prelude.{ℕ, List}
 use Rattle.skew.specs.declared.points.Point.{Point}
-use Rattle.codes.specs.declared.symbols.Symbols.{Symbols}
-use Rattle.codes.specs.declared.route.Course.{Course}
+use Rattle.skew.specs.declared.few.Few.{Few}
+use Rattle.skew.specs.Few as few
 
-abbrev pub held : Symbols → List ℕ
-held s = take s.len s.cells
+abbrev pub held : Few ℕ 24 → List ℕ
+held s = few.held s
 
-abbrev pub stops : Course → List Point
-stops c = take c.len c.cells
+abbrev pub stops : Few Point 24 → List Point
+stops c = few.held c

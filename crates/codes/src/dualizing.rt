@@ -9,10 +9,8 @@ ghost use Rattle.codes.specs.Writing.{written};
 ghost use Rattle.codes.specs.Dualizing.{turned_points, Dualized, DualSheet, Undual};
 
 use super::duals::dual_locators;
-use super::route::Course;
+use super::lists::{Course, SheetBytes, Symbols};
 use super::shape::Code;
-use super::sheet_bytes::SheetBytes;
-use super::symbols::Symbols;
 use super::writing::write_sheet;
 use fields::Kind;
 use skew::Point;

@@ -8,7 +8,7 @@ ghost use Rattle.codes.specs.Holdings.{held};
 ghost use Rattle.codes.specs.Duals.{Duality};
 ghost use Rattle.codes.specs.DualAnswers.{Located, MultiplierAt, MultipliersOf};
 
-use super::symbols::{ROOM, Symbols};
+use super::lists::{ROOM, Symbols};
 use fields::Kind;
 use skew::{Point, interpolate};
 

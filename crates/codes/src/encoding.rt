@@ -5,8 +5,8 @@ ghost use Rattle.skew.specs.Polynomials.{coefficients};
 ghost use Rattle.codes.specs.Holdings.{held};
 ghost use Rattle.codes.specs.Codes.{word_of, Read, Unread};
 
+use super::lists::Symbols;
 use super::shape::Code;
-use super::symbols::Symbols;
 use fields::Kind;
 use skew::{Polynomial, interpolate, value};
 

@@ -5,21 +5,17 @@
 mod dualizing;
 mod duals;
 mod encoding;
+mod lists;
 mod making;
-mod route;
 mod shape;
-mod sheet_bytes;
-mod symbols;
 mod syndrome;
 mod writing;
 
 pub use dualizing::{dual, dual_sheet};
 pub use duals::{dual_locators, duals_stand};
 pub use encoding::{encode, message};
+pub use lists::{Course, ROOM, SheetBytes, Symbols};
 pub use making::set_up;
-pub use route::Course;
 pub use shape::Code;
-pub use sheet_bytes::SheetBytes;
-pub use symbols::Symbols;
 pub use syndrome::syndromes;
 pub use writing::write_sheet;

@@ -8,9 +8,8 @@ ghost use Rattle.sheets.specs.Sheets.{Whole, Spells, Refused, Text};
 ghost use Rattle.sheets.specs.Readings.{text_of, Laid};
 ghost use Rattle.codes.specs.Fitness.{at_code, Outside, First, AllNot, Related, ApartUntil, pointed, Gathered, Breaks, Unfit, Made};
 
-use super::route::Course;
+use super::lists::{Course, Symbols};
 use super::shape::Code;
-use super::symbols::Symbols;
 use fields::Kind;
 use ranks::{conjugate, dependent_at};
 use sheets::{Fault, Layer, Reason, Sheet, read_sheet};

@@ -6,7 +6,7 @@ ghost use Rattle.codes.specs.Holdings.{held};
 ghost use Rattle.codes.specs.DualAnswers.{Checked, advanced};
 
 use super::duals::scaled;
-use super::symbols::{ROOM, Symbols};
+use super::lists::{ROOM, Symbols};
 use fields::Kind;
 use skew::Point;
 

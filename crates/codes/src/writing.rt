@@ -4,9 +4,8 @@ ghost use Rattle.codes.specs.Holdings.{held, stops};
 ghost use Rattle.sheets.specs.Sheets.{Text, spelled};
 ghost use Rattle.codes.specs.Writing.{written, Described};
 
+use super::lists::{SheetBytes, Symbols};
 use super::shape::Code;
-use super::sheet_bytes::SheetBytes;
-use super::symbols::Symbols;
 use skew::Point;
 
 // The parameter of the point at a place, and 0 past the end.

@@ -218,7 +218,7 @@ module _ {m : Meaning} (l : Laws m) where
 
 -- A code has as many points as its lengths say.
 pub places_in : (c : Code) → length (stops c.course) ≡ total (held_in c.lengths)
-places_in c = length-take-le c.course.len c.course.cells (omega (arith, c.course.fits, c.course.whole)) ∙ sym c.sum
+places_in c = sym c.sum
 
 -- There are no hints in blocks without hints.
 none_counted : (m : Meaning) (n : ℕ) → (row_count (replicate n (no_hints m)) ≡ 0) × (column_count (replicate n (no_hints m)) ≡ 0)

@@ -17,6 +17,7 @@ use Rattle.skew.proofs.Sharpness
 use Rattle.skew.proofs.Sums
 use Rattle.skew.proofs.Sums.{cons_path}
 use Rattle.ranks.specs.Ranks.{pick, total, cut, Weighs}
+use Rattle.skew.proofs.Filling.{short}
 use Rattle.codes.specs.declared.shape.Code.{Code}
 use Rattle.codes.specs.Holdings.{held, stops}
 use Rattle.codes.specs.Codes.{pts, LawfulCode, word_of}
@@ -95,7 +96,7 @@ module _ {m : Meaning} (l : Laws m) where
     cw_size = ap length cw-is ∙ word_size m c (elems m f)
 
     few : length (stops c.course) ≤ 24
-    few = omega (arith, c.course.fits, length-take-le c.course.len c.course.cells (omega (arith, c.course.fits, c.course.whole)))
+    few = short c.course
 
     -- The difference in elements.
     long : length (plus (ops m) (elems m w) (map (ops m).neg (elems m cw))) ≡ length (stops c.course)

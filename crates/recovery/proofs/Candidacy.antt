@@ -26,6 +26,7 @@ use Rattle.skew.proofs.Evaluation
 use Rattle.skew.proofs.Multiplication
 use Rattle.skew.proofs.Sharpness
 use Rattle.ranks.specs.Ranks.{total, cut}
+use Rattle.skew.proofs.Filling.{short}
 use Rattle.codes.specs.declared.shape.Code.{Code}
 use Rattle.codes.specs.Holdings.{held, stops}
 use Rattle.codes.specs.Codes.{pts, LawfulCode, word_of, block_size}
@@ -134,7 +135,7 @@ module _ {m : Meaning} (l : Laws m) where
       hints_few = Matching.length_hint_points l ns h.blocks (stops c.course) ∙ like.1
 
       few : row_count gs + column_count gs + c.dimension ≤ 24
-      few = omega (arith, holds.budget, places_in c, c.course.fits, length-take-le c.course.len c.course.cells (omega (arith, c.course.fits, c.course.whole)))
+      few = omega (arith, holds.budget, places_in c, short c.course)
 
       points_all : places m ps ≡ all_hint_points m ns h.blocks (stops c.course)
       points_all = points-are ∙ take_all 24 _ (omega (arith, hints_few, few))
@@ -163,7 +164,7 @@ module _ {m : Meaning} (l : Laws m) where
         spots_few = omega (arith, Finding.length_points laws (elems m s) (all_marks ns h.blocks) sites, ap length points_same, left_places)
 
         spots_all : spots m qs ≡ all_points (ops m) (elems m s) (all_marks ns h.blocks) sites
-        spots_all = spots_are ∙ take_all 24 _ (omega (arith, spots_few, places_in c, few, holds.budget, c.course.fits, length-take-le c.course.len c.course.cells (omega (arith, c.course.fits, c.course.whole)))) ∙ sym points_same
+        spots_all = spots_are ∙ take_all 24 _ (omega (arith, spots_few, places_in c, few, holds.budget, short c.course)) ∙ sym points_same
 
         -- The pairs at the places that are left.
         pairs_there : Carried (ops m) (c.dimension + row_count (givens sites)) (all_points (ops m) (elems m s) (all_marks ns h.blocks) sites) (two m t.first) (two m t.second) t.a t.b
@@ -176,7 +177,7 @@ module _ {m : Meaning} (l : Laws m) where
 
         -- There is room for the product.
         pub product_fits : length (coefficients t.second.q1) + length s ≤ 49
-        product_fits = omega (arith, carried.second.q1, length_spots, length_killer, length-map s (elem m), holds.budget, few, places_in c, c.course.fits, length-take-le c.course.len c.course.cells (omega (arith, c.course.fits, c.course.whole)))
+        product_fits = omega (arith, carried.second.q1, length_spots, length_killer, length-map s (elem m), holds.budget, few, places_in c, short c.course)
 
         module _ (p : List ℕ) (product : Multiplied m (coefficients t.second.q1) s p) where
           -- The degree of the product.
@@ -195,7 +196,7 @@ module _ {m : Meaning} (l : Laws m) where
           -- The division cannot fail.
           pub divides : ¬ Undivided m p c.dimension
           divides (inl z) = Finding.nonzero_product laws sites pairs_there annihilates product.product z
-          divides (inr o) = omega (arith, o.2, degree_low o.0 o.1, carried.carried.few, length_spots, holds.budget, few, places_in c, c.course.fits, length-take-le c.course.len c.course.cells (omega (arith, c.course.fits, c.course.whole)))
+          divides (inr o) = omega (arith, o.2, degree_low o.0 o.1, carried.carried.few, length_spots, holds.budget, few, places_in c, short c.course)
 
           -- What it gives is the candidate.
           pub candidate : (n q : List ℕ) → n ≡ codes (map (ops m).neg (elems m (coefficients t.second.q0))) → Divided m n p c.dimension q → Candidate m c gs (elems m w) q

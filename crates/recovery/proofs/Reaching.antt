@@ -31,6 +31,7 @@ use Rattle.skew.proofs.Multiplication.{times}
 use Rattle.skew.proofs.Sharpness
 use Rattle.skew.proofs.Sums.{cons_path}
 use Rattle.ranks.specs.Ranks.{cut}
+use Rattle.skew.proofs.Filling.{short}
 use Rattle.codes.specs.declared.shape.Code.{Code}
 use Rattle.codes.specs.Holdings.{held, stops}
 use Rattle.codes.specs.Codes.{pts, LawfulCode, word_of, block_size}
@@ -79,7 +80,7 @@ module _ {m : Meaning} (l : Laws m) where
 
     -- n is at most 24.
     few : length (stops c.course) ≤ 24
-    few = omega (arith, c.course.fits, length-take-le c.course.len c.course.cells (omega (arith, c.course.fits, c.course.whole)))
+    few = short c.course
 
     -- The symbols at the first k points, as the program cuts them out.
     pub reads_first : (near : List ℕ) → ((ps : List Point) → length (take (c.dimension - 0) w) ≡ length ps → Units m ps (map coefficients p.units) → Rebuilt m ps (take (c.dimension - 0) w) near)

@@ -1,3 +1,4 @@
+pub mod Sites
 pub mod Steps
 pub mod Reach
 pub mod Candidates

@@ -5,7 +5,7 @@ ghost use Rattle.skew.specs.declared.points.Point.{Point};
 ghost use Rattle.skew.specs.Polynomials.{coefficients};
 ghost use Rattle.skew.specs.Pairs.{spots};
 ghost use Rattle.codes.specs.Holdings.{held, stops};
-ghost use Rattle.holdings.specs.Holdings.{sites_in};
+ghost use Rattle.recovery.specs.Sites.{sites_in};
 ghost use Rattle.codes.specs.Codes.{pts, LawfulCode, word_of};
 ghost use Rattle.hints.specs.Splittings.{Given};
 ghost use Rattle.hints.specs.Holdings.{Holds, no_hints};
@@ -16,10 +16,10 @@ ghost use Rattle.recovery.specs.Candidates.{Candidate};
 use super::outcome::Recovery;
 use super::prepared::Prepared;
 use super::recovering::{recover, weighed};
+use super::spots::Spots;
 use codes::Code;
 use fields::Kind;
 use hints::Hints;
-use holdings::Spots;
 use skew::{Polynomial, Site, combine, left_quotient, pairs, product, value};
 
 // The polynomial with the symbols as its values at the points that the units belong to.

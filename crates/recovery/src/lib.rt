@@ -8,6 +8,7 @@ mod prepared;
 mod preparing;
 mod recovering;
 mod remains;
+mod spots;
 
 pub use direct::recover_by;
 pub use outcome::Recovery;

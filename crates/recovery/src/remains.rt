@@ -8,12 +8,12 @@ ghost use Rattle.ranks.specs.Reduction.{row as row_of, InForm};
 ghost use Rattle.codes.specs.Holdings.{held, stops};
 ghost use Rattle.hints.specs.Holdings.{padded, no_block};
 ghost use Rattle.recovery.specs.Steps.{locators_of, block_spots, all_spots};
-ghost use Rattle.holdings.specs.Holdings.{sites_in};
+ghost use Rattle.recovery.specs.Sites.{sites_in};
 
+use super::spots::Spots;
 use codes::Code;
 use fields::Kind;
 use hints::{Hints, row_of};
-use holdings::Spots;
 use ranks::{Form, Row, cleared};
 use skew::{Point, Polynomial, Site, value};
 

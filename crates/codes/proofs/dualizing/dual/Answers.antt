@@ -1,12 +1,11 @@
 use Rattle.std.proofs.Common.{◌≡◌, ◌-◌, ◌≤◌, length, sym, refl, ap, ◌∙◌, subst, inl, arith}
-use Rattle.std.proofs.lemmas.List.{length-take}
 use Rattle.fields.specs.Elements.{elems, ops}
 use Rattle.skew.specs.Annihilators.{places}
+use Rattle.skew.proofs.Filling.{short}
 use Rattle.codes.specs.Holdings.{held, stops}
 use Rattle.codes.specs.Duals.{dual_points}
 use Rattle.codes.specs.DualAnswers.{Located}
 use Rattle.codes.specs.Dualizing.{turned_points}
-use Rattle.codes.proofs.Fitness.{course_length}
 use Rattle.codes.proofs.DualCode.{turned_length, dualized, undual}
 use Rattle.codes.proofs.dualizing.dual.Goals as goal
 
@@ -15,7 +14,7 @@ returns-then-code-points g c = inl (omega (arith, ap length c.as_slice-points.en
 
 pub returns-in_err-locators : goal.returns-in_err-locators
 returns-in_err-locators g c =
-    let few : length (stops c.args.code.now.course) ≤ 24 = omega (arith, length-take c.args.code.now.course.len c.args.code.now.course.cells, c.args.code.now.course.fits) in
+    let few : length (stops c.args.code.now.course) ≤ 24 = short c.args.code.now.course in
     simp c.from_residual.ensures
     (undual (g.K.Kind.meaning c.args.kind.now) c.args.code.now few (rw c.as_slice-points.ensures at c.in_err-locators.ensures))
 
@@ -37,13 +36,12 @@ invariant_of-result g c =
     let m = g.K.Kind.meaning c.args.kind.now in
     let code = c.args.code.now in
     let loc = c.in_ok-locators.ensures in
-    let n : c.turned-course.result.len ≡ code.course.len =
-    sym (course_length c.turned-course.result) ∙ ap length c.turned-course.ensures.exact
-    ∙ turned_length m c.as_slice-points.result.now (held c.in_ok-locators.locators) loc.size ∙ ap length c.as_slice-points.ensures ∙ course_length code.course in
-    let l = ap length c.as_slice-points.ensures ∙ course_length code.course in
+    let l = ap length c.as_slice-points.ensures in
+    let n : length (stops c.turned-course.result) ≡ length (stops code.course) =
+    ap length c.turned-course.ensures.exact ∙ turned_length m c.as_slice-points.result.now (held c.in_ok-locators.locators) loc.size ∙ l in
     record {
       least = omega (arith, c.if-code-points.false);
-      most = omega (arith, l);
+      most = omega (arith, l, n);
       blocks = code.blocks;
       each = code.each;
       sum = code.sum ∙ sym n;

@@ -1,5 +1,5 @@
 use Rattle.std.proofs.Common.{length, ap, ◌∙◌, arith}
-use Rattle.std.proofs.lemmas.List.{length-take}
+use Rattle.skew.proofs.Filling.{short}
 use Rattle.codes.proofs.EncodingLoop.{row, goes_on, ends}
 use Rattle.codes.proofs.encoding.encode.Goals as goal
 
@@ -9,7 +9,7 @@ loop-p-init g c = c.empty-out.ensures
 pub loop-p-preserved : goal.loop-p-preserved
 loop-p-preserved g c =
     goes_on (g.K.Kind.meaning c.args.kind.now) c.args.message.now c.as_slice-points.result.now (record { parameter = 0; locator = 0 })
-    (omega (arith, ap length c.as_slice-points.ensures, length-take c.args.code.now.course.len c.args.code.now.course.cells))
+    (omega (arith, ap length c.as_slice-points.ensures, short c.args.code.now.course))
     c.loop-p-test.true c.loop-p.invariant c.value-symbol.ensures.sum c.push.ensures
 
 pub returns : goal.returns

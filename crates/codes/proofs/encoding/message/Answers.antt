@@ -1,5 +1,5 @@
 use Rattle.std.proofs.Common.{◌≤◌, length, ap, subst, inr, arith}
-use Rattle.std.proofs.lemmas.List.{length-take}
+use Rattle.skew.proofs.Filling.{short}
 use Rattle.skew.specs.Polynomials.{coefficients}
 use Rattle.skew.specs.Interpolation.{Interpolated}
 use Rattle.codes.specs.Holdings.{stops}
@@ -14,7 +14,7 @@ loop-i-preserved g c = clear_more c.loop-i.invariant c.get.ensures c.if-get-ne0.
 
 pub returns-in_err-f : goal.returns-in_err-f
 returns-in_err-f g c =
-    let few : length (stops c.args.code.now.course) ≤ 24 = omega (arith, length-take c.args.code.now.course.len c.args.code.now.course.cells, c.args.code.now.course.fits) in
+    let few : length (stops c.args.code.now.course) ≤ 24 = short c.args.code.now.course in
     simp c.from_residual.ensures
     (no_values (g.met.K.Kind.lawful c.args.kind.now) c.args.code.now c.args.word.now few (rw c.as_slice-points.ensures at c.in_err-f.ensures))
 
@@ -25,7 +25,7 @@ returns-then-get-ne0 g c =
 
 pub returns : goal.returns
 returns g c =
-    let few : length (stops c.args.code.now.course) ≤ 24 = omega (arith, length-take c.args.code.now.course.len c.args.code.now.course.cells, c.args.code.now.course.fits) in
+    let few : length (stops c.args.code.now.course) ≤ 24 = short c.args.code.now.course in
     let has = subst (λ ps. Interpolated (g.K.Kind.meaning c.args.kind.now) ps c.args.word.now (coefficients c.in_ok-f.f)) c.as_slice-points.ensures c.in_ok-f.ensures in
     read (g.met.K.Kind.lawful c.args.kind.now) c.args.code.now c.args.word.now (coefficients c.in_ok-f.f) has (coefficients c.resized.result) c.resized.ensures few
     (λ j h k. c.loop-i.invariant.zeros j h (omega (arith, ap length c.as_slice-points.ensures, c.loop-i-test.false)))

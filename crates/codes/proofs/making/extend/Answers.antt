@@ -3,7 +3,7 @@ use Rattle.std.proofs.lemmas.List.{length-map}
 use Rattle.std.proofs.lemmas.List.{take_all, length-take, get_or-map}
 use Rattle.codes.specs.Holdings.{stops}
 use Rattle.codes.specs.Fitness.{pointed}
-use Rattle.codes.proofs.Filling.{appended_none, appended_more}
+use Rattle.skew.proofs.Filling.{appended_none, appended_more}
 use Rattle.codes.proofs.making.extend.Goals as goal
 
 pub loop-b-init : goal.loop-b-init

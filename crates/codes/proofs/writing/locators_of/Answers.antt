@@ -2,7 +2,7 @@ use Rattle.std.proofs.Common.{[], map, take, sym, ap, ◌∙◌, arith}
 use Rattle.std.proofs.lemmas.List.{length-map}
 use Rattle.std.proofs.lemmas.List.{take_all, get_or-map}
 use Rattle.skew.specs.declared.points.Point.{Point}
-use Rattle.codes.proofs.Filling.{appended_more}
+use Rattle.skew.proofs.Filling.{appended_more}
 use Rattle.codes.proofs.writing.locators_of.Goals as goal
 
 pub loop-p-init : goal.loop-p-init

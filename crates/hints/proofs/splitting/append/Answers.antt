@@ -1,7 +1,7 @@
 use Rattle.std.proofs.Common.{◌≡◌, ◌++◌, length, take, sym, ap, ◌∙◌, arith, rules}
 use Rattle.std.proofs.lemmas.List.{take_all, get_or-take, length-take}
 use Rattle.codes.specs.Holdings.{held}
-use Rattle.codes.proofs.Filling.{appended_none, appended_more}
+use Rattle.skew.proofs.Filling.{appended_none, appended_more}
 use Rattle.hints.proofs.splitting.append.Goals as goal
 
 pub loop-i-init : goal.loop-i-init

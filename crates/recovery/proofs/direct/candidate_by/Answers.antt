@@ -1,7 +1,7 @@
 use Rattle.std.proofs.Common.{subst, arith}
 use Rattle.skew.specs.Polynomials.{coefficients}
 use Rattle.skew.specs.Pairs.{spots, Held}
-use Rattle.holdings.specs.Holdings.{sites_in}
+use Rattle.recovery.specs.Sites.{sites_in}
 use Rattle.recovery.proofs.Reaching
 use Rattle.recovery.proofs.direct.candidate_by.Goals as goal
 

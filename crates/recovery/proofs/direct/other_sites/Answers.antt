@@ -1,9 +1,10 @@
-use Rattle.std.proofs.Common.{◌<◌, ◌≤◌, [], ◌∷◌, ◌++◌, length, get_or, take, ◌∙◌, subst, ap₂, arith, length-take-le}
+use Rattle.std.proofs.Common.{◌<◌, ◌≤◌, [], ◌∷◌, ◌++◌, length, get_or, take, ◌∙◌, subst, ap₂}
 use Rattle.fields.specs.Elements.{elems}
 use Rattle.skew.specs.Values.{value_code}
 use Rattle.skew.specs.Polynomials.{coefficients}
+use Rattle.skew.proofs.Filling.{short}
 use Rattle.codes.specs.Holdings.{held, stops}
-use Rattle.holdings.specs.Holdings.{sites_in}
+use Rattle.recovery.specs.Sites.{sites_in}
 use Rattle.recovery.specs.Steps.{no_point}
 use Rattle.recovery.proofs.Turning.{turning_starts, turning_goes_on, turning_ends}
 use Rattle.recovery.proofs.direct.other_sites.Goals as goal
@@ -20,7 +21,7 @@ loop-i-preserved g c = λ M e.
     let f = coefficients c.args.f.now in
     let i = c.loop-i.i in
     turning_goes_on m (stops course) M f c.args.word.now (held c.args.prepared.now.values) i c.requires
-    (omega (arith, course.fits, length-take-le course.len course.cells (omega (arith, course.fits, course.whole))))
+    (short course)
     (subst (λ ps. i < length ps) c.as_slice-points.ensures c.loop-i-test.true) e c.args.code.now.dimension
     (c.value-here.ensures.sum ∙ ap₂ (λ h ps. value_code m h (get_or ps i no_point).parameter (get_or ps i no_point).locator) c.as_slice.ensures c.as_slice-points.ensures)
     c.opposite-minus.ensures c.sum-second.ensures

@@ -2,7 +2,7 @@ use Rattle.std.proofs.Common.{◌≡◌, List}
 use Rattle.fields.specs.Elements.{Elem, elems, codes}
 use Rattle.skew.specs.Polynomials.{coefficients}
 use Rattle.codes.specs.Holdings.{held, stops}
-use Rattle.holdings.specs.Holdings.{sites_in}
+use Rattle.recovery.specs.Sites.{sites_in}
 use Rattle.codes.specs.Codes.{word_of}
 use Rattle.recovery.proofs.Turning.{Turning}
 use Rattle.recovery.proofs.direct.other_sites.Given as goal

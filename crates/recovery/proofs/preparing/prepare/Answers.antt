@@ -5,6 +5,7 @@ use Rattle.fields.specs.Elements.{elems, codes}
 use Rattle.skew.specs.Polynomials.{coefficients}
 use Rattle.skew.specs.Annihilators.{Annihilated}
 use Rattle.skew.specs.Interpolation.{Unlawful}
+use Rattle.skew.proofs.Filling.{short}
 use Rattle.codes.specs.Codes.{word_of}
 use Rattle.recovery.proofs.Units.{Collected, collected_goes_on, lawful_there, prepares, first_cut}
 use Rattle.recovery.proofs.preparing.prepare.Goals as goal
@@ -18,7 +19,7 @@ returns-in_err-unit g c = λ law.
 pub loop-j-preserved : goal.loop-j-preserved
 loop-j-preserved g c =
     collected_goes_on (g.met.K.Kind.lawful c.args.kind.now) (take (c.args.code.now.dimension - 0) c.as_slice-points.result.now)
-    (omega (arith, c.loop-j-test.true, c.args.code.now.most, c.args.code.now.course.fits)) (map-set coefficients c.loop-j.units c.loop-j.j c.in_ok-unit.unit)
+    (omega (arith, c.loop-j-test.true, c.args.code.now.most, short c.args.code.now.course)) (map-set coefficients c.loop-j.units c.loop-j.j c.in_ok-unit.unit)
     c.in_ok-unit.ensures c.loop-j.invariant
 
 pub invariant_of-result : goal.invariant_of-result

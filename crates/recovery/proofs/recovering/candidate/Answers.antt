@@ -3,7 +3,7 @@ use Rattle.skew.specs.Annihilators.{Annihilated}
 use Rattle.skew.specs.Polynomials.{coefficients}
 use Rattle.skew.specs.Pairs.{spots, Held}
 use Rattle.codes.specs.Holdings.{stops}
-use Rattle.holdings.specs.Holdings.{sites_in}
+use Rattle.recovery.specs.Sites.{sites_in}
 use Rattle.recovery.proofs.Candidacy.{cases_so, product_fits, divides, candidate}
 use Rattle.recovery.proofs.recovering.candidate.Goals as goal
 

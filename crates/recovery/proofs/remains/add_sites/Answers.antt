@@ -9,7 +9,7 @@ use Rattle.ranks.specs.Reduction.{rows_of}
 use Rattle.ranks.specs.RowSteps.{clear}
 use Rattle.fields.specs.Elements.{ops}
 use Rattle.recovery.specs.Steps.{no_point, parameter_of}
-use Rattle.holdings.specs.Holdings.{sites_in}
+use Rattle.recovery.specs.Sites.{sites_in}
 use Rattle.recovery.proofs.Leaving.{Leaving, leaving_skips, leaving_goes_on, leaving_ends, site_here, block_spots_here}
 use Rattle.recovery.proofs.remains.add_sites.Goals as goal
 use Rattle.recovery.proofs.remains.add_sites.Goals.{then-not-columns-p, else-not-columns-p}

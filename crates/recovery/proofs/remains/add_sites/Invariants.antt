@@ -3,7 +3,7 @@ use Rattle.fields.specs.Elements.{elems}
 use Rattle.skew.specs.Polynomials.{coefficients}
 use Rattle.ranks.specs.Reduction.{row}
 use Rattle.recovery.specs.Steps.{parameter_of}
-use Rattle.holdings.specs.Holdings.{sites_in}
+use Rattle.recovery.specs.Sites.{sites_in}
 use Rattle.recovery.proofs.Leaving.{Leaving}
 use Rattle.recovery.proofs.remains.add_sites.Given as goal
 

@@ -2,7 +2,7 @@ use Rattle.std.proofs.Common.{◌≡◌, ◌+◌, ◌<◌, ◌≤◌, length, ge
 use Rattle.fields.specs.Elements.{elems}
 use Rattle.skew.specs.Polynomials.{coefficients}
 use Rattle.codes.specs.Holdings.{held, stops}
-use Rattle.holdings.specs.Holdings.{sites_in}
+use Rattle.recovery.specs.Sites.{sites_in}
 use Rattle.recovery.proofs.Walking.{block_within}
 use Rattle.hints.specs.Holdings.{no_block}
 use Rattle.recovery.proofs.Leaving.{own_part, gathering_starts, gathering_goes_on, gathering_ends}

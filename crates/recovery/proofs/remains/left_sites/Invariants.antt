@@ -1,7 +1,7 @@
 use Rattle.fields.specs.Elements.{elems}
 use Rattle.skew.specs.Polynomials.{coefficients}
 use Rattle.codes.specs.Holdings.{held, stops}
-use Rattle.holdings.specs.Holdings.{sites_in}
+use Rattle.recovery.specs.Sites.{sites_in}
 use Rattle.recovery.proofs.Leaving.{Gathering}
 use Rattle.recovery.proofs.remains.left_sites.Given as goal
 
