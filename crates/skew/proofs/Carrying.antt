@@ -3,8 +3,9 @@
 --   both f g               a pair of two lists
 --   lift_is, cross_is      what a step makes of the pivot and of the other pair, in elements, and how long it is
 --   stays, firsts, seconds the three turns of a step keep what is held
-use Rattle.std.proofs.Common.{◌≡◌, ℕ, suc, ◌+◌, ◌<◌, ◌≤◌, max, ◌≢◌, ◌⊎◌, List, [], ◌∷◌, ◌++◌, length, get_or, take, sym, ap, ◌∙◌, subst, inl, inr, add-one, arith, length-append}
+use Rattle.std.proofs.Common.{◌≡◌, ℕ, suc, ◌+◌, ◌<◌, ◌≤◌, max, ◌≢◌, ◌⊎◌, List, [], ◌∷◌, ◌++◌, length, get_or, take, sym, ap, ◌∙◌, subst, inl, inr, add-one, arith, length-append, Option, Some, None, MatchOption}
 use Rattle.std.proofs.lemmas.List.{length-map}
+use Rattle.std.specs.Option.{unwrap_or}
 use Rattle.std.proofs.lemmas.List.{take_more, take_all, map-append, length-take-le}
 use Rattle.fields.specs.Field.{plus, scale}
 use Rattle.fields.specs.Field as field
@@ -56,6 +57,11 @@ module _ {m : Meaning} (l : Laws m) where
     is = ap ((ops m).mul (elem m c)) z ∙ Basics.mul_zero laws (elem m c)
         ∙ sym (ap (step (ops m) (elem m a)) z ∙ ap (λ w. (ops m).mul w (elem m a)) (Basics.twist_zero laws) ∙ Basics.zero_mul laws (elem m a));
   }
+
+  -- So the root where there is one, and else 0.
+  pub any_root_or : (a v : ℕ) (r : Option ℕ) {c : ℕ} → MatchOption r (elem m v ≡ (ops m).zero) (λ x. Root m a v x) → c ≡ unwrap_or r 0 → Root m a v c
+  any_root_or a v None z e = subst (Root m a v) (sym e) (any_root a v 0 z)
+  any_root_or a v (Some x) h e = subst (Root m a v) (sym e) h
 
   -- A code is 0 exactly where its element is zero.
   zero_of : {x : ℕ} (v : Elem m) → x ≡ v.code → v ≡ (ops m).zero → x ≡ 0

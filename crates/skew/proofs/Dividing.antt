@@ -3,7 +3,7 @@
 --   Resizing       after i coefficients
 --   Clear          no coefficient from i on is other than zero
 --   Untwisting     after i turns
---   Subtracting    after i coefficients of the divisor
+--   Subtracted     s is r less p × (c times the j-th power), as far as r reaches
 --   Dividing       with j coefficients to go: out has zeros there, and the rest is the dividend less divisor × out, zero from d + j on
 use Rattle.std.proofs.Common.{◌≡◌, ℕ, suc, ◌+◌, ◌-◌, ◌<◌, ◌≤◌, min, ◌≢◌, List, [], ◌∷◌, ◌++◌, length, get_or, take, drop, set, Some, None, sym, refl, ap, ◌∙◌, subst, inl, inr, add-one, arith, length-set, get_or-set_other, get_or-set_same}
 use Rattle.std.proofs.Math.Decide.{ℕ_discrete}
@@ -21,9 +21,9 @@ use Rattle.fields.specs.Basics.{ring}
 use Rattle.fields.proofs.Carrier
 use Rattle.skew.specs.Values.{twisted}
 use Rattle.skew.specs.Products.{coef, coefficient, Below}
-use Rattle.skew.specs.Polynomials.{Codes}
+use Rattle.skew.specs.Polynomials.{Codes, Added}
 use Rattle.skew.specs.Few.{Resized}
-use Rattle.skew.specs.Quotients.{Divided, Leads, Untwisted, Subtracted}
+use Rattle.skew.specs.Quotients.{Divided, Leads, Untwisted}
 use Rattle.skew.proofs.Multiplication
 use Rattle.skew.proofs.Division
 use Rattle.skew.proofs.Growing.{inverse_some, inverse_none}
@@ -78,12 +78,10 @@ pub record Untwisting (m : Meaning) (x i y : ℕ) : Type 0 where
   pub is : twisted (ops m) i (elem m y) ≡ elem m x
   pub counts : clip m y ≡ y
 
-pub record Subtracting (m : Meaning) (p : List ℕ) (j c : ℕ) (r : List ℕ) (i x : ℕ) (s : List ℕ) : Type 0 where
-  pub twists : elem m x ≡ twisted (ops m) i (elem m c)
+pub record Subtracted (m : Meaning) (p : List ℕ) (j c : ℕ) (r s : List ℕ) : Type 0 where
   pub size : length s ≡ length r
   pub below : (l : ℕ) → l < j → get_or s l 0 ≡ get_or r l 0
-  pub done : (l : ℕ) → l < i → l + j < length r → elem m (get_or s (l + j) 0) ≡ (ops m).add (elem m (get_or r (l + j) 0)) ((ops m).neg ((ops m).mul (coef (ops m) (elems m p) l) (twisted (ops m) l (elem m c))))
-  pub left : (l : ℕ) → i ≤ l → get_or s (l + j) 0 ≡ get_or r (l + j) 0
+  pub above : (l : ℕ) → l + j < length r → elem m (get_or s (l + j) 0) ≡ (ops m).add (elem m (get_or r (l + j) 0)) ((ops m).neg ((ops m).mul (coef (ops m) (elems m p) l) (twisted (ops m) l (elem m c))))
 
 pub record Dividing (m : Meaning) (n p : List ℕ) (d k j : ℕ) (rest out : List ℕ) : Type 0 where
   pub size_rest : length rest ≡ d + k
@@ -142,57 +140,16 @@ module _ {m : Meaning} (l : Laws m) where
       let e : i ≡ n = omega arith in
       record { is = ap (λ z. twisted (ops m) z (elem m y)) (sym e) ∙ u.is; counts = u.counts }
 
-  -- Before the first coefficient of the divisor.
-  pub subtract_starts : (p : List ℕ) (j c : ℕ) (r : List ℕ) → Subtracting m p j c r 0 c r
-  subtract_starts p j c r = record { twists = refl; size = refl; below = λ l h. refl; done = λ l h. absurd (omega arith); left = λ l h. refl }
-
-  -- One coefficient more.
-  pub subtract_goes_on : {p r s s' : List ℕ} {j c i x a t n b h x' : ℕ} → Subtracting m p j c r i x s
-      → a ≡ get_or p i 0 → t ≡ m.product (clip m a) (clip m x) → n ≡ m.opposite (clip m t) → b ≡ get_or s (i + j) 0 → h ≡ m.sum (clip m b) (clip m n)
-      → s' ≡ set s (i + j) h → x' ≡ m.twist (clip m x) → Subtracting m p j c r (i + 1) x' s'
-  subtract_goes_on {p} {r} {s} {s'} {j} {c} {i} {x} {a} {t} {n} {b} {h} {x'} u ea et en eb eh es ex = record {
-    twists = rw add-one (Carrier.twists m x ex ∙ ap (ops m).twist u.twists);
-    size = ap length es ∙ length-set s (i + j) h ∙ u.size;
-    below = λ k g. other k (λ q. omega arith) ∙ u.below k g;
-    done = done;
-    left = λ k g. other (k + j) (λ q. omega arith) ∙ u.left k (omega arith);
+  -- What is added with the opposite of c is taken off with c.
+  pub subtracted : {p r s : List ℕ} {j c n : ℕ} → n ≡ m.opposite (clip m c) → Added m p j n r s → Subtracted m p j c r s
+  subtracted {p} {r} {s} {j} {c} {n} en a = record {
+    size = a.size;
+    below = a.below;
+    above = λ k h. a.above k h ∙ ap (λ w. (ops m).add (elem m (get_or r (k + j) 0)) ((ops m).mul (coef (ops m) (elems m p) k) w)) (ap (twisted (ops m) k) (Carrier.negates m c en) ∙ Multiplication.twisted_neg laws k (elem m c)) ∙ ap ((ops m).add _) (outside (coef (ops m) (elems m p) k) (twisted (ops m) k (elem m c)));
   }
     where
-      other : (k : ℕ) → k ≢ i + j → get_or s' k 0 ≡ get_or s k 0
-      other k ne = ap (λ z. get_or z k 0) es ∙ get_or-set_other s (i + j) k h 0 ne
-
-      here : i + j < length s → elem m (get_or s' (i + j) 0) ≡ (ops m).add (elem m (get_or r (i + j) 0)) ((ops m).neg ((ops m).mul (coef (ops m) (elems m p) i) (twisted (ops m) i (elem m c))))
-      here g =
-          let e0 : get_or s' (i + j) 0 ≡ h = ap (λ z. get_or z (i + j) 0) es ∙ get_or-set_same s (i + j) h 0 g in
-          let e1 = Carrier.sums m b n eh in
-          let e2 = Carrier.negates m t en in
-          let e3 = Carrier.multiplies m a x et in
-          let e4 = Carrier.elem_at m p i in
-          let e5 = u.twists in
-          let e6 = u.left i (omega arith) in
-          cc
-
-      done : (k : ℕ) → k < i + 1 → k + j < length r → elem m (get_or s' (k + j) 0) ≡ (ops m).add (elem m (get_or r (k + j) 0)) ((ops m).neg ((ops m).mul (coef (ops m) (elems m p) k) (twisted (ops m) k (elem m c))))
-      done k g q = elim (cases_lt k i) [
-        | inl w ↦ ap (elem m) (other (k + j) (λ z. omega arith)) ∙ u.done k w q
-        | inr w ↦ (let e : i ≡ k = omega arith in
-            subst (λ k. elem m (get_or s' (k + j) 0) ≡ (ops m).add (elem m (get_or r (k + j) 0)) ((ops m).neg ((ops m).mul (coef (ops m) (elems m p) k) (twisted (ops m) k (elem m c))))) e (here (omega (arith, u.size))))
-      ]
-
-  -- After the last one: the divisor is zero past its end.
-  pub subtract_ends : {p r s : List ℕ} {j c i x n : ℕ} → n ≡ length p → n ≤ i → Subtracting m p j c r i x s → Subtracted m p j c r s
-  subtract_ends {p} {r} {s} {j} {c} {i} {x} {n} en h u = record { size = u.size; below = u.below; above = above }
-    where
-      nought : (y w : Elem m) → (ops m).add y ((ops m).neg ((ops m).mul (ops m).zero w)) ≡ y
-      nought y w = simp (ring, laws)
-
-      above : (k : ℕ) → k + j < length r → elem m (get_or s (k + j) 0) ≡ (ops m).add (elem m (get_or r (k + j) 0)) ((ops m).neg ((ops m).mul (coef (ops m) (elems m p) k) (twisted (ops m) k (elem m c))))
-      above k g = elim (cases_lt k i) [
-        | inl q ↦ u.done k q g
-        | inr q ↦ ap (elem m) (u.left k q)
-            ∙ sym (ap (λ w. (ops m).add (elem m (get_or r (k + j) 0)) ((ops m).neg ((ops m).mul w (twisted (ops m) k (elem m c))))) (get_or-eq_default (elems m p) (ops m).zero (omega (arith, length-map p (elem m))))
-            ∙ nought (elem m (get_or r (k + j) 0)) (twisted (ops m) k (elem m c)))
-      ]
+      outside : (x y : Elem m) → (ops m).mul x ((ops m).neg y) ≡ (ops m).neg ((ops m).mul x y)
+      outside x y = simp (ring, laws)
 
   -- A list of zeros, and the sums that it makes.
   zeros_null : {e out : List ℕ} {k : ℕ} → e ≡ [] → Resized 48 e k out → (i : ℕ) → get_or out i 0 ≡ 0

@@ -6,8 +6,7 @@
 --   Undivided m p k           p is zero, or d + k is more than 48
 --   Leads m f d i             d is the degree of f, and i the inverse of its coefficient there
 --   Untwisted m n x y         y is the code that n twists take to x
---   Subtracted m p j c r s    s is r less p × (c times the j-th power), as far as r reaches
-use Rattle.std.specs.Prelude.{◌≡◌, ℕ, ◌+◌, ◌<◌, ◌≤◌, ◌⊎◌, List, length, slice_index}
+use Rattle.std.specs.Prelude.{◌≡◌, ℕ, ◌+◌, ◌<◌, ◌≤◌, ◌⊎◌, List, length}
 use Rattle.fields.specs.Lists.{All}
 use Rattle.fields.specs.Field.{Ops, Zero}
 use Rattle.fields.specs.Meaning.{Meaning, clip}
@@ -38,8 +37,3 @@ pub record Leads (m : Meaning) (f : List ℕ) (d i : ℕ) : Type 0 where
 pub record Untwisted (m : Meaning) (n x y : ℕ) : Type 0 where
   pub is : twisted (ops m) n (elem m y) ≡ elem m x
   pub counts : clip m y ≡ y
-
-pub record Subtracted (m : Meaning) (p : List ℕ) (j c : ℕ) (r s : List ℕ) : Type 0 where
-  pub size : length s ≡ length r
-  pub below : (l : ℕ) → l < j → slice_index s l ≡ slice_index r l
-  pub above : (l : ℕ) → l + j < length r → elem m (slice_index s (l + j)) ≡ (ops m).add (elem m (slice_index r (l + j))) ((ops m).neg ((ops m).mul (coef (ops m) (elems m p) l) (twisted (ops m) l (elem m c))))

@@ -14,9 +14,7 @@ use fields::Kind;
 pub fn root<K: Kind>(kind: &K, parameter: u8, v: u8) -> Option<u8>
     ensures { let m = K.meaning kind.now in MatchOption result (elem m v ≡ (ops m).zero) (λ c. Root m parameter v c) }
 {
-    let Some(inverse) = kind.inverse(v) else {
-        return None;
-    };
+    let inverse = kind.inverse(v)?;
     let twisted = kind.twist(v);
     let step = kind.product(twisted, parameter);
     Some(kind.product(step, inverse))
@@ -39,10 +37,7 @@ pub fn grow<K: Kind>(kind: &K, base: &Polynomial, point: Point) -> Option<Polyno
 {
     let v = value(kind, base.as_slice(), point.parameter, point.locator);
     match root(kind, point.parameter, v) {
-        Some(c) => {
-            let factor = linear(kind, c);
-            return product(kind, &factor, base);
-        }
+        Some(c) => product(kind, &linear(kind, c), base),
         None => Some(*base),
     }
 }

@@ -25,8 +25,8 @@ pub fn product<K: Kind>(kind: &K, f: &Polynomial, g: &Polynomial) -> Option<Poly
         return None;
     }
     let mut sum = Polynomial::empty().resized((f.len() + g.len()).saturating_sub(1));
-    for j in 0..g.len() {
-        sum.add(kind, f, j, g.get(j));
+    for (j, c) in g.as_slice().iter().enumerate() {
+        sum.add(kind, f, j, *c);
     }
     Some(sum)
 }

@@ -35,13 +35,13 @@ fn values<K: Kind>(kind: &K, f: &[u8], g: &[u8], parameter: u8, locator: u8) -> 
     let mut u = 0;
     let mut v = 0;
     let mut x = locator;
-    for i in 0..n {
-        u = kind.sum(u, kind.product(f[i], x));
-        v = kind.sum(v, kind.product(g[i], x));
+    for (a, b) in f.iter().zip(g) {
+        u = kind.sum(u, kind.product(*a, x));
+        v = kind.sum(v, kind.product(*b, x));
         x = kind.product(kind.twist(x), parameter);
     }
-    let rest = value(kind, &f[n..f.len()], parameter, x);
-    let others = value(kind, &g[n..g.len()], parameter, x);
+    let rest = value(kind, &f[n..], parameter, x);
+    let others = value(kind, &g[n..], parameter, x);
     (kind.sum(u, rest), kind.sum(v, others))
 }
 
@@ -70,10 +70,7 @@ fn worths<K: Kind>(kind: &K, s: &TwoPairs, site: Site) -> (u8, u8)
 fn factor<K: Kind>(kind: &K, parameter: u8, v: u8) -> u8
     ensures { let m = K.meaning kind.now in Root m parameter v result }
 {
-    match root(kind, parameter, v) {
-        Some(c) => c,
-        None => 0,
-    }
+    root(kind, parameter, v).unwrap_or(0)
 }
 
 // Which pair is the pivot, where x and y are the values of the two at the site.

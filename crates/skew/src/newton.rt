@@ -32,14 +32,10 @@ fn correct<K: Kind>(
     match kind.inverse(there) {
         Some(inverse) => {
             let c = kind.product(gap, inverse);
-            return Some(combine(kind, 1, f, c, base));
+            Some(combine(kind, 1, f, c, base))
         }
-        None => {
-            if gap == 0 {
-                return Some(*f);
-            }
-            None
-        }
+        None if gap == 0 => Some(*f),
+        None => None,
     }
 }
 
@@ -59,9 +55,9 @@ pub fn interpolate<K: Kind>(kind: &K, points: &[Point], values: &[u8]) -> Option
     let mut f = Polynomial::empty();
     let mut base = Polynomial::empty();
     base.push(1);
-    for i in 0..points.len() {
-        f = correct(kind, &f, &base, points[i], values[i])?;
-        base = grow(kind, &base, points[i])?;
+    for (p, v) in points.iter().zip(values) {
+        f = correct(kind, &f, &base, *p, *v)?;
+        base = grow(kind, &base, *p)?;
     }
     Some(f)
 }

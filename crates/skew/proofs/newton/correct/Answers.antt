@@ -8,11 +8,11 @@ returns-in-Some g c =
     c.as_slice.ensures c.value-here.ensures.steps c.as_slice-2.ensures c.value-there.ensures.steps
     c.opposite-minus.ensures c.sum-gap.ensures c.in-Some.ensures c.product-c.ensures c.combine.ensures
 
-pub returns-then-gap-eq0 : goal.returns-then-gap-eq0
-returns-then-gap-eq0 g c =
+pub returns-in-None : goal.returns-in-None
+returns-in-None g c =
     corrected_same (g.met.K.Kind.lawful c.args.kind.now) (coefficients c.args.f.now) (coefficients c.args.base.now) c.args.point c.args.wanted
     c.as_slice.ensures c.value-here.ensures.steps c.opposite-minus.ensures c.sum-gap.ensures c.if-gap-eq0.true
 
-pub returns : goal.returns
-returns g c =
+pub returns-in-None-2 : goal.returns-in-None-2
+returns-in-None-2 g c =
     vanishes_there (g.met.K.Kind.lawful c.args.kind.now) (coefficients c.args.base.now) c.args.point c.as_slice-2.ensures c.value-there.ensures.steps c.in-None.ensures

@@ -1,5 +1,5 @@
 use Rattle.skew.proofs.Dividing.{Untwisting}
 use Rattle.skew.proofs.quotients.untwisted.Given as goal
 
-abbrev pub invariant-loop-i : goal.invariant-loop-i
-invariant-loop-i g l = Untwisting (g.K.Kind.meaning l.kind) l.x l.i l.y
+abbrev pub invariant-loop : goal.invariant-loop
+invariant-loop g l = Untwisting (g.K.Kind.meaning l.kind) l.x l.counter l.y

@@ -1,4 +1,4 @@
-use Rattle.std.proofs.Common.{◌≡◌, ◌+◌, ◌-◌, ◌<◌, min, length, sym, refl, arith, rules}
+use Rattle.std.proofs.Common.{◌≡◌, ◌+◌, ◌-◌, ◌<◌, min, length, sym, refl, arith}
 use Rattle.std.proofs.lemmas.List.{get_or-take}
 use Rattle.skew.specs.Few.{held}
 use Rattle.skew.proofs.Filling.{long, put_is}
