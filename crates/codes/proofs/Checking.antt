@@ -2,7 +2,8 @@
 --
 --   Summing m xs ys i t             t plus the sum over the places from i on is the whole sum
 --   Checking m ps ds w j ts out     ts are the terms of syndrome j, counted from 0, and out holds the syndromes before it
-use Rattle.std.proofs.Common.{◌≡◌, ℕ, suc, ◌+◌, ◌-◌, ◌<◌, ◌≤◌, List, [], ◌∷◌, ◌++◌, length, get_or, take, drop, sym, refl, ap, ◌∙◌, add-one, arith, below_more}
+use Rattle.std.proofs.Common.{◌≡◌, ℕ, suc, ◌+◌, ◌-◌, ◌<◌, ◌≤◌, min, List, [], ◌∷◌, ◌++◌, length, get_or, take, drop, sym, refl, ap, ◌∙◌, inl, inr, add-one, arith, below_more}
+use Rattle.std.proofs.lemmas.Bool.{cases_lt}
 use Rattle.std.proofs.lemmas.List.{length-map}
 use Rattle.std.proofs.lemmas.List.{drop_more, drop_all, take_all, length_push, get_or_push, get_or_append_left}
 use Rattle.fields.specs.Field.{mirror, scale, comb}
@@ -79,10 +80,16 @@ module _ {m : Meaning} (l : Laws m) where
       }
 
   -- All places.
-  pub sum_ends : {xs ys : List ℕ} {i t : ℕ} → length xs ≤ i → Summing m xs ys i t → t ≡ (comb (ops m) (elems m xs) (elems m ys)).code
-  sum_ends {xs} {ys} {i} {t} h s =
+  pub sum_ends : {xs ys : List ℕ} {i t : ℕ} → i ≡ min (length xs) (length ys) → Summing m xs ys i t → t ≡ (comb (ops m) (elems m xs) (elems m ys)).code
+  sum_ends {xs} {ys} {i} {t} n s =
       Carrier.answers _ s.counts
-      (sym (Basics.add_zero laws (elem m t)) ∙ ap ((ops m).add (elem m t)) (sym (ap (λ zs. comb (ops m) (elems m zs) (drop i (elems m ys))) (drop_all i xs h))) ∙ s.whole)
+      (sym (Basics.add_zero laws (elem m t)) ∙ ap ((ops m).add (elem m t)) (sym nothing_left) ∙ s.whole)
+    where
+      nothing_left : comb (ops m) (elems m (drop i xs)) (drop i (elems m ys)) ≡ (ops m).zero
+      nothing_left = elim (cases_lt i (length xs)) [
+        | inl h ↦ ap (comb (ops m) (elems m (drop i xs))) (drop_all i (elems m ys) (omega (arith, length-map ys (elem m)))) ∙ Combs.comb_null laws (elems m (drop i xs)) [] tt
+        | inr h ↦ ap (λ zs. comb (ops m) (elems m zs) (drop i (elems m ys))) (drop_all i xs h)
+      ]
 
   -- How many terms there are.
   pub length_advanced : (ps : List Point) (ts : List (Elem m)) → length ts ≡ length ps → length (advanced m ps ts) ≡ length ps

@@ -1,9 +1,11 @@
 -- Reading a message: a word is a codeword exactly where its interpolant has no coefficient from k on.
 --
---   Clear f k i    the coefficients of f from k up to i are 0
-use Rattle.std.proofs.Common.{◌≡◌, ℕ, suc, ◌+◌, ◌<◌, ◌≤◌, ◌≢◌, ◌⊎◌, List, [], ◌∷◌, length, get_or, sym, refl, ap, ◌∙◌, subst, ap₂, inl, inr, arith}
+--   SearchTells f k r    the answer r of a search behind the first k numbers of f for one that is not 0
+use Rattle.std.proofs.Common.{◌≡◌, ℕ, suc, ◌+◌, ◌<◌, ◌≤◌, ◌≢◌, ◌⊎◌, ◌-◌, Bool, true, false, List, [], ◌∷◌, length, get_or, drop, sym, refl, ap, ◌∙◌, subst, ap₂, inl, inr, arith}
 use Rattle.std.proofs.lemmas.List.{length-map}
-use Rattle.std.proofs.lemmas.List.{get_or_past}
+use Rattle.std.proofs.lemmas.List.{get_or_past, get_or-drop, length-drop}
+use Rattle.std.specs.Bool.{MatchBool}
+use Rattle.std.specs.List.{HoldsAt, AllWithin}
 use Rattle.std.proofs.lemmas.Bool.{cases_lt}
 use Rattle.fields.specs.Field.{Ops}
 use Rattle.fields.specs.Field as field
@@ -28,16 +30,24 @@ module _ {F : Type 0} {o : Ops F} (l : field.Laws o) where
   values_same f g h (t ∷ ts) =
       ap₂ (λ x xs. x ∷ xs) (sym (eval_value l t.0 f t.1) ∙ Evaluation.eval_same l t.0 f g t.1 h ∙ eval_value l t.0 g t.1) (values_same f g h ts)
 
-pub record Clear (f : List ℕ) (k i : ℕ) : Type 0 where
-  pub zeros : (j : ℕ) → k ≤ j → j < i → get_or f j 0 ≡ 0
+-- What such a search tells, by cases.
+abbrev pub SearchTells : List ℕ → ℕ → Bool → Type 0
+SearchTells f k r = MatchBool r ((i : ℕ) × (i < length (drop k f)) × HoldsAt (λ c. c ≢ 0) (drop k f) i) (AllWithin (λ c. c ≡ 0) (drop k f) 0 (length (drop k f)))
 
-pub clear_none : (f : List ℕ) (k : ℕ) → Clear f k k
-clear_none f k = record { zeros = λ j h h'. absurd (omega arith) }
+-- One that is found stands at place k or later.
+pub found_behind : (f : List ℕ) (k : ℕ) {r : Bool} → r ≡ true → SearchTells f k r → (i : ℕ) × (k ≤ i) × (get_or f i 0 ≢ 0)
+found_behind f k {r} e s =
+    let h = subst (SearchTells f k) e s in
+    (k + h.0, omega arith, subst (λ c. c ≢ 0) (get_or-drop k f h.0 0) (h.2 0))
 
-pub clear_more : {f : List ℕ} {k i x : ℕ} → Clear f k i → x ≡ get_or f i 0 → x ≡ 0 → Clear f k (i + 1)
-clear_more {f} {k} {i} {x} w e z = record {
-  zeros = λ j h h'. elim (cases_lt j i) [ inl b ↦ w.zeros j h b | inr b ↦ let s : j ≡ i = omega arith in ap (λ n. get_or f n 0) s ∙ sym e ∙ z ];
-}
+-- Where none is found all are 0.
+pub none_behind : (f : List ℕ) (k : ℕ) {r : Bool} → r ≡ false → SearchTells f k r → (j : ℕ) → k ≤ j → get_or f j 0 ≡ 0
+none_behind f k {r} e s j h = elim (cases_lt j (length f)) [
+  | inl b ↦ (let t = subst (SearchTells f k) e s in
+      let i : k + (j - k) ≡ j = omega arith in
+      ap (λ n. get_or f n 0) (sym i) ∙ sym (get_or-drop k f (j - k) 0) ∙ t (j - k) 0 (omega arith) (omega (arith, b, length-drop k f)))
+  | inr b ↦ get_or_past f j 0 b
+]
 
 module _ {m : Meaning} (l : Laws m) where
   -- The coefficient of an element list is the element of the number there.

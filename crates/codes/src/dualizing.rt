@@ -23,10 +23,12 @@ fn turned<K: Kind>(kind: &K, points: &[Point], locators: &Symbols) -> Course
     ensures points { let m = K.meaning kind.now in places m (stops result) ≡ dual_points (ops m) (places m points.now) (elems m (held locators.now)) }
 {
     let mut out = Course::empty();
-    for i in 0..points.len() {
-        let parameter = kind.untwist(points[i].parameter);
-        let locator = locators.get(i);
-        out.push(Point { parameter, locator });
+    for (p, b) in points.iter().zip(locators.as_slice()) {
+        let parameter = kind.untwist(p.parameter);
+        out.push(Point {
+            parameter,
+            locator: *b,
+        });
     }
     out
 }

@@ -66,7 +66,7 @@ pub fn dual_locators<K: Kind>(kind: &K, points: &[Point]) -> Option<Symbols>
     ensures { let m = K.meaning kind.now in let ps = points.now in
         MatchOption result ((length ps ≡ 0) ⊎ ((24 < length ps) ⊎ Unlawful m ps)) (λ s. Located m ps (held s)) }
 {
-    if points.len() == 0 {
+    if points.is_empty() {
         return None;
     }
     if points.len() > ROOM {

@@ -29,10 +29,8 @@ pub fn message<K: Kind>(kind: &K, code: &Code, word: &[u8]) -> Option<Polynomial
 {
     let points = code.course.as_slice();
     let f = interpolate(kind, points, word)?;
-    for i in code.dimension..points.len() {
-        if f.get(i) != 0 {
-            return None;
-        }
+    if f.as_slice().iter().skip(code.dimension).any(|c| *c != 0) {
+        return None;
     }
     Some(f.resized(code.dimension))
 }

@@ -20,16 +20,9 @@ fn first_outside<K: Kind>(kind: &K, bytes: &[u8], least: u8) -> Option<usize>
     ensures { let m = K.meaning kind.now in options.MatchOption result (AllNot (Outside m least) bytes.now) (λ i. First (Outside m least) bytes.now i) }
 {
     let size = kind.size();
-    for i in 0..bytes.len() {
-        let x = bytes[i];
-        if x < least {
-            return Some(i);
-        }
-        if (x as u16) >= size {
-            return Some(i);
-        }
-    }
-    None
+    bytes
+        .iter()
+        .position(|x| *x < least || u16::from(*x) >= size)
 }
 
 // Whether parameter j is conjugate to an earlier one.
@@ -37,12 +30,8 @@ fn related<K: Kind>(kind: &K, parameters: &[u8], j: usize) -> bool
     requires { j < length parameters.now }
     ensures { let m = K.meaning kind.now in Tells result (Related m parameters.now j) }
 {
-    for i in 0..j {
-        if conjugate(kind, parameters[i], parameters[j]) {
-            return true;
-        }
-    }
-    false
+    let last = parameters[j];
+    parameters[..j].iter().any(|a| conjugate(kind, *a, last))
 }
 
 // The first parameter that is.
@@ -114,10 +103,7 @@ fn copied(source: &[u8]) -> Symbols
     requires { length source.now ≤ 24 }
     ensures { held result ≡ source.now }
 {
-    match Symbols::from_slice(source) {
-        Some(s) => s,
-        None => Symbols::empty(),
-    }
+    Symbols::from_slice(source).unwrap_or(Symbols::empty())
 }
 
 // The code of a sheet, or why it is none: numbers that are no codes first, then parameters that are conjugate, then locators that

@@ -15,8 +15,8 @@ fn product_sum<K: Kind>(kind: &K, word: &[u8], terms: &Symbols) -> u8
     ensures { let m = K.meaning kind.now in result ≡ (comb (ops m) (elems m word.now) (elems m (held terms.now))).code }
 {
     let mut total = 0;
-    for i in 0..word.len() {
-        let term = kind.product(word[i], terms.get(i));
+    for (x, t) in word.iter().zip(terms.as_slice()) {
+        let term = kind.product(*x, *t);
         total = kind.sum(total, term);
     }
     total
@@ -28,8 +28,8 @@ fn advance<K: Kind>(kind: &K, points: &[Point], terms: &Symbols) -> Symbols
     ensures { let m = K.meaning kind.now in held result ≡ take 24 (codes (advanced m points.now (elems m (held terms.now)))) }
 {
     let mut out = Symbols::empty();
-    for i in 0..points.len() {
-        let grown = kind.product(terms.get(i), points[i].parameter);
+    for (p, t) in points.iter().zip(terms.as_slice()) {
+        let grown = kind.product(*t, p.parameter);
         let next = kind.untwist(grown);
         out.push(next);
     }
@@ -65,7 +65,7 @@ pub fn syndromes<K: Kind>(
     }
     let mut terms = scaled(kind, 1, duals);
     let mut out = Symbols::empty();
-    for j in 0..n - k {
+    for _ in 0..n - k {
         let s = product_sum(kind, word, &terms);
         out.push(s);
         terms = advance(kind, points, &terms);
