@@ -62,6 +62,10 @@ module _ {m : Meaning} (l : Laws m) where
     whole = ap (λ z. (ops m).add z (comb (ops m) (elems m xs) (elems m ys))) (Carrier.zero_is m) ∙ Basics.zero_add laws _;
   }
 
+  -- With nothing left to add the total is the sum.
+  told : {xs ys : List ℕ} {i t : ℕ} → Summing m xs ys i t → comb (ops m) (elems m (drop i xs)) (drop i (elems m ys)) ≡ (ops m).zero → t ≡ (comb (ops m) (elems m xs) (elems m ys)).code
+  told {xs} {ys} {i} {t} s z = Carrier.answers _ s.counts (sym (Basics.add_zero laws (elem m t)) ∙ ap ((ops m).add (elem m t)) (sym z) ∙ s.whole)
+
   -- One place more.
   pub sum_goes_on : {xs ys : List ℕ} {i t y p t' : ℕ} → i < length xs → Summing m xs ys i t → y ≡ get_or ys i 0 → p ≡ m.product (clip m (get_or xs i 0)) (clip m y) → t' ≡ m.sum (clip m t) (clip m p)
       → Summing m xs ys (i + 1) t'
@@ -80,16 +84,15 @@ module _ {m : Meaning} (l : Laws m) where
       }
 
   -- All places.
-  pub sum_ends : {xs ys : List ℕ} {i t : ℕ} → i ≡ min (length xs) (length ys) → Summing m xs ys i t → t ≡ (comb (ops m) (elems m xs) (elems m ys)).code
-  sum_ends {xs} {ys} {i} {t} n s =
-      Carrier.answers _ s.counts
-      (sym (Basics.add_zero laws (elem m t)) ∙ ap ((ops m).add (elem m t)) (sym nothing_left) ∙ s.whole)
-    where
-      nothing_left : comb (ops m) (elems m (drop i xs)) (drop i (elems m ys)) ≡ (ops m).zero
-      nothing_left = elim (cases_lt i (length xs)) [
-        | inl h ↦ ap (comb (ops m) (elems m (drop i xs))) (drop_all i (elems m ys) (omega (arith, length-map ys (elem m)))) ∙ Combs.comb_null laws (elems m (drop i xs)) [] tt
-        | inr h ↦ ap (λ zs. comb (ops m) (elems m zs) (drop i (elems m ys))) (drop_all i xs h)
-      ]
+  pub sum_ends : {xs ys : List ℕ} {i t : ℕ} → length xs ≤ i → Summing m xs ys i t → t ≡ (comb (ops m) (elems m xs) (elems m ys)).code
+  sum_ends {xs} {ys} {i} {t} h s = told s (ap (λ zs. comb (ops m) (elems m zs) (drop i (elems m ys))) (drop_all i xs h))
+
+  -- Also where the other row ends there.
+  pub sum_ends_shorter : {xs ys : List ℕ} {i t : ℕ} → i ≡ min (length xs) (length ys) → Summing m xs ys i t → t ≡ (comb (ops m) (elems m xs) (elems m ys)).code
+  sum_ends_shorter {xs} {ys} {i} {t} n s = elim (cases_lt i (length xs)) [
+    | inl h ↦ told s (ap (comb (ops m) (elems m (drop i xs))) (drop_all i (elems m ys) (omega (arith, length-map ys (elem m)))) ∙ Combs.comb_null laws (elems m (drop i xs)) [] tt)
+    | inr h ↦ sum_ends h s
+  ]
 
   -- How many terms there are.
   pub length_advanced : (ps : List Point) (ts : List (Elem m)) → length ts ≡ length ps → length (advanced m ps ts) ≡ length ps

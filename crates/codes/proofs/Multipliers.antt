@@ -1,9 +1,9 @@
 -- The loops of the functions on dual locators, over plain numbers.
 --
 --   Gathering m ps i out    out holds the multipliers of the first i places
-use Rattle.std.proofs.Common.{◌≡◌, ℕ, suc, ◌+◌, ◌-◌, ◌<◌, ◌≤◌, List, [], ◌∷◌, ◌++◌, length, get_or, take, set, replicate, Some, None, sym, refl, ap, ◌∙◌, subst, arith, below_more}
+use Rattle.std.proofs.Common.{◌≡◌, ℕ, suc, ◌+◌, ◌-◌, ◌<◌, ◌≤◌, List, [], ◌∷◌, ◌++◌, length, get_or, take, replicate, Some, None, sym, refl, ap, ◌∙◌, subst, arith, below_more}
 use Rattle.std.proofs.lemmas.List.{length-map}
-use Rattle.std.proofs.lemmas.List.{take_all, take-replicate, length_push, get_or_push, get_or_append_left, get_or-map}
+use Rattle.std.proofs.lemmas.List.{take_all, length_push, get_or_push, get_or_append_left, get_or-map}
 use Rattle.fields.specs.Field.{scale}
 use Rattle.fields.specs.Field as field
 use Rattle.fields.specs.Meaning.{Meaning, Laws, clip, inverted}
@@ -13,7 +13,7 @@ use Rattle.skew.specs.declared.points.Point.{Point}
 use Rattle.skew.specs.Roots.{Block, points, Lawful}
 use Rattle.skew.specs.Products.{coef}
 use Rattle.skew.specs.Annihilators.{place, places}
-use Rattle.skew.specs.Interpolation.{Unlawful, Interpolated}
+use Rattle.skew.specs.Interpolation.{Unlawful, indicator, Interpolated}
 use Rattle.skew.proofs.Sums.{cons_path}
 use Rattle.skew.proofs.Sharpness
 use Rattle.skew.proofs.Sharpness.{Sharp}
@@ -28,14 +28,11 @@ pub record Gathering (m : Meaning) (ps : List Point) (i : ℕ) (out : List ℕ) 
   pub size : length out ≡ i
   pub each : (j : ℕ) → j < i → Multiplier (ops m) (places m ps) (length ps - 1) j (length ps - suc j) (elem m (get_or out j 0))
 
--- The first n of c cells that are 0 but for a 1 at place i.
-unit_row : (c n i : ℕ) → i < n → n ≤ c → take n (set (replicate {A = ℕ} c 0) i 1) ≡ replicate i 0 ++ 1 ∷ replicate (n - suc i) 0
-unit_row c ℕ.zero i h k = absurd (omega arith)
-unit_row ℕ.zero (suc n) i h k = absurd (omega arith)
-unit_row (suc c) (suc n) ℕ.zero h k =
-    ap (λ zs. 1 ∷ zs) (take-replicate n c 0 (omega arith)) ∙ ap (λ r. 1 ∷ replicate r 0) (let e : n ≡ suc n - 1 = omega arith in e)
-unit_row (suc c) (suc n) (suc i) h k =
-    ap (λ zs. 0 ∷ zs) (unit_row c n i (omega arith) (omega arith)) ∙ ap (λ r. 0 ∷ replicate i 0 ++ 1 ∷ replicate r 0) (let e : n - suc i ≡ suc n - suc (suc i) = omega arith in e)
+-- A row with 1 at one place and 0 elsewhere, by its parts.
+indicator_parts : (n i : ℕ) → i < n → indicator n i ≡ replicate i 0 ++ 1 ∷ replicate (n - suc i) 0
+indicator_parts ℕ.zero i h = absurd (omega arith)
+indicator_parts (suc n) ℕ.zero h = ap (λ r. 1 ∷ replicate r 0) (let e : n ≡ suc n - 1 = omega arith in e)
+indicator_parts (suc n) (suc i) h = ap (λ zs. 0 ∷ zs) (indicator_parts n i (omega arith)) ∙ ap (λ r. 0 ∷ replicate i 0 ++ 1 ∷ replicate r 0) (let e : n - suc i ≡ suc n - suc (suc i) = omega arith in e)
 
 module _ {m : Meaning} (l : Laws m) where
   -- The laws of the elements.
@@ -57,13 +54,12 @@ module _ {m : Meaning} (l : Laws m) where
   length_places ps = length-map {B = Elem m × Elem m} ps (place m)
 
   -- What `multiplier` answers.
-  pub multiplier_is : (ps : List Point) (i : ℕ) {vs f : List ℕ} {w : ℕ} → i < length ps → length ps ≤ 24 → vs ≡ take (length ps) (set (replicate 24 0) i 1)
-      → Interpolated m ps vs f → w ≡ get_or f (length ps - 1) 0 → MultiplierAt m ps i w
-  multiplier_is ps i {vs} {f} {w} h few ev p ew = record {
+  pub multiplier_is : (ps : List Point) (i : ℕ) {f : List ℕ} {w : ℕ} → i < length ps → Interpolated m ps (indicator (length ps) i) f → w ≡ get_or f (length ps - 1) 0 → MultiplierAt m ps i w
+  multiplier_is ps i {f} {w} h p ew = record {
     multiplier = (
       elems m f,
       omega (arith, length-map f (elem m), length_places ps, p.size),
-      p.has ∙ ap (elems m) (ev ∙ unit_row 24 (length ps) i h few) ∙ elems_unit i (length ps - suc i),
+      p.has ∙ ap (elems m) (indicator_parts (length ps) i h) ∙ elems_unit i (length ps - suc i),
       sym (ap (elem m) ew ∙ Carrier.elem_at m f (length ps - 1)),
     );
   }

@@ -10,7 +10,7 @@ ghost use Rattle.codes.specs.DualAnswers.{Located, MultiplierAt, MultipliersOf};
 
 use super::lists::{ROOM, Symbols};
 use fields::Kind;
-use skew::{Point, interpolate};
+use skew::{Point, unit};
 
 // Over every kind: dual locators exist and are the only ones, the dual code is lawful over the mirror, its codewords are
 // the words whose product-sum with every codeword is 0, its dual has the codewords of the first code, and syndromes tell
@@ -28,9 +28,7 @@ fn multiplier<K: Kind>(kind: &K, points: &[Point], i: usize) -> Option<u8>
     requires { (i < length points.now) × (length points.now ≤ 24) }
     ensures { let m = K.meaning kind.now in let ps = points.now in MatchOption result (Unlawful m ps) (λ w. MultiplierAt m ps i w) }
 {
-    let mut row = [0; ROOM];
-    row[i] = 1;
-    let f = interpolate(kind, points, &row[0..points.len()])?;
+    let f = unit(kind, points, i)?;
     Some(f.get(points.len() - 1))
 }
 

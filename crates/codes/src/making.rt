@@ -86,13 +86,13 @@ fn gather<K: Kind>(
 {
     let mut course = Course::empty();
     let mut at = 0;
-    for i in 0..lengths.len() {
-        let size = lengths[i] as usize;
+    for (n, parameter) in lengths.iter().zip(parameters) {
+        let size = usize::from(*n);
         let part = &locators[at..at + size];
         if let Some(j) = dependent_at(kind, part) {
             return Err(fault(Reason::Dependent, base + (at + j)));
         }
-        extend(&mut course, parameters[i], part);
+        extend(&mut course, *parameter, part);
         at += size;
     }
     Ok(course)

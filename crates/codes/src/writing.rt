@@ -12,11 +12,7 @@ use skew::Point;
 fn parameter_at(points: &[Point], at: usize) -> u8
     ensures { at < length points.now → result ≡ (get_or points.now at (record { parameter = 0; locator = 0 })).parameter }
 {
-    if at < points.len() {
-        points[at].parameter
-    } else {
-        0
-    }
+    points.get(at).map_or(0, |p| p.parameter)
 }
 
 // The parameter of each block: that of its first point.
@@ -30,7 +26,7 @@ fn parameters_of(code: &Code) -> Symbols
     for n in lengths {
         let parameter = parameter_at(points, at);
         out.push(parameter);
-        at = at.saturating_add(*n as usize);
+        at = at.saturating_add(usize::from(*n));
     }
     out
 }
@@ -51,7 +47,7 @@ fn locators_of(code: &Code) -> Symbols
 fn byte(n: usize) -> u8
     ensures { n ≤ 255 → result ≡ n }
 {
-    if n < 256 { n as u8 } else { 255 }
+    u8::try_from(n).unwrap_or(255)
 }
 
 // The sheet of a code under this kind number: for the code of a sheet, that sheet.

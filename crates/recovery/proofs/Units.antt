@@ -19,7 +19,7 @@ use Rattle.skew.specs.Roots.{points, at}
 use Rattle.skew.specs.Products.{coef, Degree}
 use Rattle.skew.specs.Polynomials.{coefficients, combined}
 use Rattle.skew.specs.Annihilators.{place, places, Annihilated}
-use Rattle.skew.specs.Interpolation.{Unlawful, Interpolated}
+use Rattle.skew.specs.Interpolation.{indicator, Unlawful, Interpolated}
 use Rattle.skew.proofs.Combining
 use Rattle.skew.proofs.Evaluation
 use Rattle.skew.proofs.Sharpness
@@ -70,16 +70,16 @@ module _ {m : Meaning} (l : Laws m) where
       ∙ ap (at (ops m) (elems m f)) (get_or-map (place m) ps i no_point (place m no_point) h))
       ∙ ap (λ ws. get_or ws i (ops m).zero) p.has ∙ sym (Carrier.elem_at m vs i)
 
-  -- What `unit_at` answers.
-  pub unit_is : (ps : List Point) (j : ℕ) {vs f : List ℕ} → j < length ps → length ps ≤ 24 → vs ≡ take (length ps) (set (replicate 24 0) j 1) → Interpolated m ps vs f → UnitAt m ps j f
-  unit_is ps j {vs} {f} h few ev p = record {
+  -- What `unit` answers.
+  pub unit_is : (ps : List Point) (j : ℕ) {f : List ℕ} → j < length ps → Interpolated m ps (indicator (length ps) j) f → UnitAt m ps j f
+  unit_is ps j {f} h p = record {
     size = p.size;
     here =
-        interpolant_at ps vs f p j h
-        ∙ ap (elem m) (ap (λ ws. get_or ws j 0) ev ∙ get_or-take (length ps) (set (replicate 24 0) j 1) j 0 h ∙ get_or-set_same (replicate 24 0) j 1 0 (omega (arith, h, few, length-replicate {A = ℕ} 24 0))) ∙ Carrier.one_is m;
+        interpolant_at ps (indicator (length ps) j) f p j h
+        ∙ ap (elem m) (get_or-set_same (replicate (length ps) 0) j 1 0 (omega (arith, h, length-replicate {A = ℕ} (length ps) 0))) ∙ Carrier.one_is m;
     elsewhere = λ i k n.
-        interpolant_at ps vs f p i k
-        ∙ ap (elem m) (ap (λ ws. get_or ws i 0) ev ∙ get_or-take (length ps) (set (replicate 24 0) j 1) i 0 k ∙ get_or-set_other (replicate 24 0) j i 1 0 n ∙ get_or-replicate 24 i 0 0 (omega (arith, k, few)))
+        interpolant_at ps (indicator (length ps) j) f p i k
+        ∙ ap (elem m) (get_or-set_other (replicate (length ps) 0) j i 1 0 n ∙ get_or-replicate (length ps) i 0 0 k)
         ∙ Carrier.zero_is m;
   }
 

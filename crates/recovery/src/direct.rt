@@ -29,8 +29,8 @@ fn rebuilt<K: Kind>(kind: &K, prepared: &Prepared, symbols: &[u8]) -> Polynomial
         ((ps : List Point) → length symbols.now ≡ length ps → Units m ps (map coefficients prepared.now.units) → Rebuilt m ps symbols.now (coefficients result)) }
 {
     let mut out = Polynomial::empty();
-    for j in 0..symbols.len() {
-        out = combine(kind, 1, &out, symbols[j], &prepared.units[j]);
+    for (y, unit) in symbols.iter().zip(&prepared.units) {
+        out = combine(kind, 1, &out, *y, unit);
     }
     out
 }

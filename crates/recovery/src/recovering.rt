@@ -51,9 +51,9 @@ fn difference<K: Kind>(kind: &K, word: &[u8], codeword: &Symbols) -> Symbols
         held result ≡ take 24 (codes (plus (ops m) (elems m word.now) (map (ops m).neg (elems m (held codeword.now))))) }
 {
     let mut out = Symbols::empty();
-    for i in 0..word.len() {
-        let minus = kind.opposite(codeword.get(i));
-        let here = kind.sum(word[i], minus);
+    for (x, y) in word.iter().zip(codeword.as_slice()) {
+        let minus = kind.opposite(*y);
+        let here = kind.sum(*x, minus);
         out.push(here);
     }
     out

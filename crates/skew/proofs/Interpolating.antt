@@ -1,9 +1,9 @@
 -- The loop of `interpolate`, over plain numbers.
 --
 --   Stepping m ps vs i f g    after i points: f has the values wanted so far, and g is monic and vanishes at the points so far
-use Rattle.std.proofs.Common.{◌≡◌, ℕ, ◌+◌, ◌<◌, ◌≤◌, ◌≢◌, List, [], ◌∷◌, ◌++◌, map, length, get_or, take, drop, Some, None, sym, refl, ap, ◌∙◌, subst, arith, take-append-drop}
+use Rattle.std.proofs.Common.{◌≡◌, ℕ, ◌+◌, ◌<◌, ◌≤◌, ◌≢◌, List, [], ◌∷◌, ◌++◌, map, length, get_or, take, drop, set, replicate, ◌⊎◌, Option, MatchOption, Some, None, sym, refl, ap, ◌∙◌, subst, inl, inr, arith, length-set, take-append-drop}
 use Rattle.std.proofs.lemmas.List.{length-map}
-use Rattle.std.proofs.lemmas.List.{take_more, take_all, map-append, length-take-le}
+use Rattle.std.proofs.lemmas.List.{take_more, take_all, map-append, length-take-le, take-replicate, length-replicate}
 use Rattle.fields.specs.Lists.{All}
 use Rattle.fields.specs.Field.{plus, scale}
 use Rattle.fields.specs.Field as field
@@ -13,12 +13,14 @@ use Rattle.fields.specs.Basics
 use Rattle.fields.specs.Basics.{ring}
 use Rattle.fields.specs.Rows
 use Rattle.fields.proofs.Carrier
+use Rattle.skew.specs.declared.few.Few.{Few}
 use Rattle.skew.specs.declared.points.Point.{Point}
 use Rattle.skew.specs.Values.{eval, value, eval_code}
 use Rattle.skew.specs.Roots.{at, Vanishes}
-use Rattle.skew.specs.Polynomials.{Codes, combined}
+use Rattle.skew.specs.Polynomials.{coefficients, Codes, combined}
 use Rattle.skew.specs.Annihilators.{place, places, Grown}
-use Rattle.skew.specs.Interpolation.{values, Unlawful, Interpolated, Corrected}
+use Rattle.skew.specs.Interpolation.{values, Unlawful, Interpolated, Corrected, indicator}
+use Rattle.skew.proofs.Filling.{put_is}
 use Rattle.skew.proofs.Evaluation
 use Rattle.skew.proofs.Everywhere.{all_append}
 use Rattle.skew.proofs.Sums
@@ -198,3 +200,22 @@ module _ {m : Meaning} (l : Laws m) where
             (omega (arith, length-map {B = Elem m × Elem m} ps (place m))) (omega (arith, length-map {B = Elem m × Elem m} ps (place m), length-map f (elem m), s.size))
             (subst (λ v. map (λ t. v t.0 q t.1) (places m ps) ≡ map (λ t. v t.0 (elems m f) t.1) (places m ps)) (sym both) (hq ∙ sym has));
       }
+
+-- The first n of 24 cells that are 0 but for a 1 at place i.
+pub indicated : (n i : ℕ) → i < n → n ≤ 24 → take n (set (replicate 24 0) i 1) ≡ indicator n i
+indicated n i h few = put_is n (replicate 24 0) i 1 h ∙ ap (λ z. set z i 1) (take-replicate n 24 0 few)
+
+-- What has these values is the unit, and where it is refused the points are not lawful.
+pub unit_told : (m : Meaning) (ps : List Point) (i : ℕ) (r : Option (Few ℕ 48)) {vs : List ℕ} → length ps ≤ 24 → i < length ps → vs ≡ indicator (length ps) i
+    → MatchOption r ((24 < length ps) ⊎ ((length vs ≢ length ps) ⊎ Unlawful m ps)) (λ f. Interpolated m ps vs (coefficients f))
+    → MatchOption r ((24 < length ps) ⊎ ((length ps ≤ i) ⊎ Unlawful m ps)) (λ f. (i < length ps) × Interpolated m ps (indicator (length ps) i) (coefficients f))
+unit_told m ps i None few h e (inl k) = absurd (omega arith)
+unit_told m ps i None few h e (inr (inl n)) = absurd (n (ap length e ∙ length-set (replicate (length ps) 0) i 1 ∙ length-replicate (length ps) 0))
+unit_told m ps i None few h e (inr (inr u)) = inr (inr u)
+unit_told m ps i (Some f) few h e p = (h, subst (λ vs. Interpolated m ps vs (coefficients f)) e p)
+
+-- Where a unit is refused for a point that is there, the points are not lawful.
+pub unlawful_then : (m : Meaning) (ps : List Point) (i : ℕ) → i < length ps → length ps ≤ 24 → (24 < length ps) ⊎ ((length ps ≤ i) ⊎ Unlawful m ps) → Unlawful m ps
+unlawful_then m ps i h few (inl k) = absurd (omega arith)
+unlawful_then m ps i h few (inr (inl k)) = absurd (omega arith)
+unlawful_then m ps i h few (inr (inr u)) = u

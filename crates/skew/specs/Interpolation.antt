@@ -4,8 +4,9 @@
 --   Unlawful m ps              however the points are grouped in blocks, these are not lawful
 --   Interpolated m ps vs f     f has these values, and at most as many coefficients as there are points; where the points are
 --                              lawful it is the only such polynomial
+--   indicator n i              n numbers, 1 at place i and 0 elsewhere
 --   Corrected m f g p v h      h has the value v at the point p, and those of f wherever g vanishes
-use Rattle.std.specs.Prelude.{◌≡◌, ℕ, ◌≤◌, max, List, map, length}
+use Rattle.std.specs.Prelude.{◌≡◌, ℕ, ◌≤◌, max, List, map, length, replicate, slice_set}
 use Rattle.fields.specs.Field.{Ops}
 use Rattle.fields.specs.Meaning.{Meaning}
 use Rattle.fields.specs.Elements.{Elem, elem, elems, ops}
@@ -20,6 +21,10 @@ values o f pts = map (at o f) pts
 
 abbrev pub Unlawful : Meaning → List Point → Type 0
 Unlawful m ps = (blocks : List (Block (Elem m))) → points blocks ≡ places m ps → ¬ Lawful (ops m) blocks
+
+-- n numbers, 1 at place i and 0 elsewhere.
+abbrev pub indicator : ℕ → ℕ → List ℕ
+indicator n i = slice_set (replicate n 0) i 1
 
 pub record Interpolated (m : Meaning) (ps : List Point) (vs f : List ℕ) : Type 0 where
   pub room : length ps ≤ 24

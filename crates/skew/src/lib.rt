@@ -22,7 +22,7 @@ pub use annihilators::annihilator;
 pub use arithmetic::{combine, product};
 pub use engine::pairs;
 pub use few::Few;
-pub use newton::interpolate;
+pub use newton::{interpolate, unit};
 pub use pairing::{Pair, TwoPairs};
 pub use points::{MOST, Point, Site};
 pub use polynomial::{CAPACITY, Polynomial};

@@ -1,10 +1,10 @@
 // The polynomial with given values at given points, one point after the other.
-ghost use Rattle.std.specs.Prelude.{◌≡◌, ◌<◌, ◌≢◌, ◌⊎◌, length, MatchOption};
+ghost use Rattle.std.specs.Prelude.{◌≡◌, ◌<◌, ◌≤◌, ◌≢◌, ◌⊎◌, length, MatchOption};
 ghost use Rattle.fields.specs.Elements.{elem, elems, ops};
 ghost use Rattle.skew.specs.Polynomials.{coefficients};
 ghost use Rattle.skew.specs.Roots.{Vanishes};
 ghost use Rattle.skew.specs.Annihilators.{place};
-ghost use Rattle.skew.specs.Interpolation.{Unlawful, Interpolated, Corrected};
+ghost use Rattle.skew.specs.Interpolation.{Unlawful, Interpolated, Corrected, indicator};
 
 use super::annihilators::grow;
 use super::arithmetic::combine;
@@ -60,4 +60,18 @@ pub fn interpolate<K: Kind>(kind: &K, points: &[Point], values: &[u8]) -> Option
         base = grow(kind, &base, *p)?;
     }
     Some(f)
+}
+
+// The polynomial that is 1 at point i and 0 at the others, with at most as many coefficients as there are points. Nothing for more
+// than 24 points, where there is no point i, and for some points that are not lawful.
+pub fn unit<K: Kind>(kind: &K, points: &[Point], i: usize) -> Option<Polynomial>
+    ensures { let m = K.meaning kind.now in let ps = points.now in
+        MatchOption result ((24 < length ps) ⊎ ((length ps ≤ i) ⊎ Unlawful m ps)) (λ f. (i < length ps) × Interpolated m ps (indicator (length ps) i) (coefficients f)) }
+{
+    if points.len() > MOST || i >= points.len() {
+        return None;
+    }
+    let mut values = [0; MOST];
+    values[i] = 1;
+    interpolate(kind, points, &values[..points.len()])
 }

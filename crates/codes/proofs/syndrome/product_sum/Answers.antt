@@ -1,9 +1,9 @@
-use Rattle.std.proofs.Common.{length, ap, ◌∙◌, arith, rules}
+use Rattle.std.proofs.Common.{ap, ◌∙◌, rules}
 use Rattle.std.proofs.lemmas.List.{length_push}
 use Rattle.std.proofs.lemmas.Slice.Zip.{zip_turn, zip_end}
 use Rattle.fields.specs.Meaning.{clip}
 use Rattle.codes.specs.Holdings.{held}
-use Rattle.codes.proofs.Checking.{sum_starts, sum_goes_on, sum_ends}
+use Rattle.codes.proofs.Checking.{sum_starts, sum_goes_on, sum_ends_shorter}
 use Rattle.codes.proofs.syndrome.product_sum.Goals as goal
 
 pub loop-x-init : goal.loop-x-init
@@ -19,4 +19,4 @@ loop-x-preserved g c =
 pub returns : goal.returns
 returns g c =
     let n = zip_end c.args.word.now (held c.args.terms.now) c.loop-x.yielded c.into_iter-x-iterator.result c.loop-x.x-iterator c.next.new.self _ (search rules) (search rules) c.loop-x.yielded_by c.in-None.is c.next.ensures.steps in
-    sum_ends (g.met.K.Kind.lawful c.args.kind.now) n c.loop-x.invariant
+    sum_ends_shorter (g.met.K.Kind.lawful c.args.kind.now) n c.loop-x.invariant

@@ -11,7 +11,7 @@ loop-n-preserved c =
     let f = c.as_slice-lengths.ensures in
     listing_more c.args.code.now (omega (arith, ap length f, c.loop-n-test.true)) c.loop-n.invariant
     (subst (λ ps. c.loop-n.at < length ps → c.parameter_at-parameter.result ≡ (get_or ps c.loop-n.at (record { parameter = 0; locator = 0 })).parameter) e c.parameter_at-parameter.ensures)
-    c.push.ensures (rw f at c.saturating_add-at.ensures)
+    c.push.ensures (rw f at (rw c.from.ensures at c.saturating_add-at.ensures))
 
 pub returns : goal.returns
 returns c = listing_all c.args.code.now (omega (arith, ap length c.as_slice-lengths.ensures, c.loop-n-test.false)) c.loop-n.invariant
