@@ -2,7 +2,7 @@
 ghost use Rattle.std.specs.Prelude.{◌≡◌, ◌<◌, [], MatchOption};
 ghost use Rattle.fields.specs.Lists.{All};
 ghost use Rattle.fields.specs.Field.{Zero, plus, scale};
-ghost use Rattle.fields.specs.Meaning.{Meaning};
+ghost use Rattle.fields.specs.Meaning.{Meaning, digit_row};
 ghost use Rattle.fields.specs.Elements.{elem, ops};
 ghost use Rattle.ranks.specs.Reduction.{row as row_of, rows_of, InForm, Inserted, Row as FixedRow};
 ghost use Rattle.ranks.specs.RowSteps.{clear, PivotAt, Swept};
@@ -85,6 +85,17 @@ fn sweep<K: Kind>(kind: &K, form: &mut Form, p: usize, by: &Row)
         let minus = kind.opposite(row.cells[p]);
         let next = combined(kind, &row, minus, by);
         form.rows[i] = next;
+    }
+}
+
+impl Row {
+    // The digits of an element, which are fixed.
+    pub fn of_digits<K: Kind>(kind: &K, x: u8) -> Row
+        ensures { result.cells ≡ digit_row (K.meaning kind.now) x }
+    {
+        Row {
+            cells: kind.digits(x),
+        }
     }
 }
 
