@@ -36,8 +36,8 @@ module _ (m : Meaning) where
       → block ≡ take (get_or ns i 0) rest → behind ≡ drop (get_or ns i 0) rest → IsRank (ops m) (elems m block) r
       → Weighing m ns w i rest sum → Weighing m ns w (i + 1) behind (sum + r)
   weighing_goes_on ns {w} {i} {rest} {sum} r block behind lt le eb er k v = record {
-    balance = omega (arith, v.balance, ap total split, ap total (sym later), ap length er, length-drop n rest, le);
-    few = omega (arith, v.few, rank_few block r k, ap length eb, length-take-le n rest le, ap length er, length-drop n rest);
+    balance = omega (arith, v.balance, ap total split, ap total (sym later), ap length er, length-drop (get_or ns i 0) rest, le);
+    few = omega (arith, v.few, rank_few block r k, ap length eb, length-take-le (get_or ns i 0) rest le, ap length er, length-drop (get_or ns i 0) rest);
     ahead = λ u s. subst (Weighs (ops m) (map (elems m) (cut ns w))) (sym (add_assoc sum r u)) (v.ahead (r + u) (subst (λ ps. Weighs (ops m) (map (elems m) ps) (r + u)) (sym cuts)
         (r, subst (λ b. IsRank (ops m) (elems m b) r) eb k, u, subst (λ ls. Weighs (ops m) (map (elems m) (cut ls behind)) u) later s, refl)));
   }
