@@ -1,4 +1,7 @@
-// Why a hint is not taken: the first reason against it. The file has no `ghost use`, since specs name the enum.
+// Why a hint is not taken: the first reason against it.
+ghost use Rattle.std.specs.Prelude.{Some};
+ghost use Rattle.hints.specs.Reasons.{reason_of};
+
 use std::error::Error;
 use std::fmt;
 
@@ -17,6 +20,8 @@ pub enum NotTaken {
 }
 
 impl fmt::Display for NotTaken {
+    ghost output = { λ e. Some (reason_of e) };
+
     fn fmt<W: fmt::Write>(&self, f: &mut fmt::Formatter<W>) -> fmt::Result {
         match self {
             NotTaken::NoBlock => write!(f, "no block"),
