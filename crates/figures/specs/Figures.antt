@@ -1,5 +1,5 @@
 -- Worked figures about the definitions: one table. Each row is computed from the definitions alone.
-use Rattle.std.specs.Prelude.{◌≡◌, ℕ, List, [], ◌∷◌, map}
+use Rattle.std.specs.Prelude.{◌≡◌, ℕ, List, [], ◌∷◌, map, Err}
 use Rattle.fields.specs.Meaning.{Meaning}
 use Rattle.fields.specs.Shipped.{gf256, gf16, gf81, mod13}
 use Rattle.fields.specs.Elements.{Elem, elem, elems, ops}
@@ -10,7 +10,7 @@ use Rattle.codes.specs.declared.shape.Code.{Code}
 use Rattle.codes.specs.Codes.{word_of}
 use Rattle.codes.specs.Duals.{DualLocators, syndrome}
 use Rattle.codes.specs.Fitness.{at_code, Unfit, Made}
-use Rattle.hints.specs.declared.verdict.Verdict.TheVariants as verdict
+use Rattle.hints.specs.declared.not_taken.NotTaken.TheVariants as not_taken
 use Rattle.hints.specs.Splittings.{Given, full_part}
 use Rattle.hints.specs.Taking.{RowJudged}
 use Rattle.recovery.specs.Reach.{InReach}
@@ -88,5 +88,5 @@ pub record Figures : Type 0 where
   pub b_without_hints : (c : Code) → Made gf16 (text_b (1 ∷ 2 ∷ []) (1 ∷ 2 ∷ 1 ∷ 2 ∷ [])) c → Reaches gf16 c (untold gf16 ∷ untold gf16 ∷ []) (8 ∷ 4 ∷ 3 ∷ 13 ∷ []) (4 ∷ 4 ∷ 3 ∷ 13 ∷ []) 1 ((12 ∷ 0 ∷ []) ∷ (0 ∷ 0 ∷ []) ∷ [])
   -- hints for B: after the row hint 8 in block 1 the row hint 5 there is dependent; after both hints the row hint 1 in block 2 meets a
   -- spent budget
-  pub b_dependent_hint : RowJudged gf16 (2 ∷ 2 ∷ []) 2 row_hint_b 1 5 verdict.Dependent
-  pub b_spent : RowJudged gf16 (2 ∷ 2 ∷ []) 2 both_hints_b 2 1 verdict.Spent
+  pub b_dependent_hint : RowJudged gf16 (2 ∷ 2 ∷ []) 2 row_hint_b 1 5 (Err not_taken.Dependent)
+  pub b_spent : RowJudged gf16 (2 ∷ 2 ∷ []) 2 both_hints_b 2 1 (Err not_taken.Spent)

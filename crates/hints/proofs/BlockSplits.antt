@@ -1,7 +1,7 @@
 -- The parts of one block, as the program makes them.
-use Rattle.std.proofs.Common.{◌≡◌, ℕ, suc, ◌-◌, ◌≤◌, List, [], ◌∷◌, ◌++◌, map, length, take, replicate, sym, refl, ap, ◌∙◌, arith}
+use Rattle.std.proofs.Common.{◌≡◌, ℕ, ◌-◌, ◌≤◌, List, [], ◌∷◌, ◌++◌, map, length, take, replicate, sym, refl, ap, ◌∙◌, arith}
 use Rattle.std.proofs.lemmas.List.{length-map}
-use Rattle.std.proofs.lemmas.List.{map-append, take-map, take_at}
+use Rattle.std.proofs.lemmas.List.{take-map, take_at}
 use Rattle.fields.specs.Field.{plus}
 use Rattle.fields.specs.Field as field
 use Rattle.fields.specs.Meaning.{Meaning, Laws}
@@ -10,7 +10,7 @@ use Rattle.fields.specs.Basics.{ring}
 use Rattle.fields.proofs.Carrier
 use Rattle.skew.proofs.Sums.{cons_path}
 use Rattle.ranks.specs.Ranks.{pick}
-use Rattle.ranks.specs.Reduction.{mix, rows_of, InForm}
+use Rattle.ranks.specs.Reduction.{mix, marks_of, rows_of, InForm}
 use Rattle.ranks.specs.RowSteps.{clear}
 use Rattle.ranks.proofs.Mixing
 use Rattle.codes.specs.Holdings.{held}
@@ -24,6 +24,7 @@ use Rattle.hints.proofs.Leasts
 use Rattle.hints.proofs.Leasts.{least}
 use Rattle.hints.proofs.Likeness
 use Rattle.hints.proofs.Narrow
+use Rattle.hints.proofs.Padding.{padded_numbers}
 use Rattle.hints.proofs.Reading
 use Rattle.hints.proofs.Reading.{way}
 use Rattle.hints.proofs.Rowwise.{minus}
@@ -49,21 +50,11 @@ module _ {m : Meaning} (l : Laws m) where
   laws : field.Laws (ops m)
   laws = Carrier.ops_laws l
 
-  -- Zeros as elements.
-  zeros_are : (n : ℕ) → elems m (replicate n 0) ≡ replicate n (ops m).zero
-  zeros_are ℕ.zero = refl
-  zeros_are (suc n) = cons_path (Carrier.zero_is m) (zeros_are n)
-
-  -- Symbols with zeros behind.
-  padded_is : (e : List ℕ) → elems m (e ++ replicate (8 - length e) 0) ≡ padded m (elems m e)
-  padded_is e =
-      map-append (elem m) e (replicate (8 - length e) 0) ∙ ap (λ w. elems m e ++ w) (zeros_are (8 - length e)) ∙ ap (λ i. elems m e ++ replicate (8 - i) (ops m).zero) (sym (length-map e (elem m)))
-
   module _ {b : BlockHints} (e : List ℕ) {g : Given (Elem m)} (le : length e ≤ 8) (k : BlockHolds m (length e) b g)
-      (left : List ℕ) (left_is : elems m left ≡ clear (ops m) b.columns.marks (rows_of m b.columns) (padded m (elems m e))) where
+      (left : List ℕ) (left_is : elems m left ≡ clear (ops m) (marks_of b.columns) (rows_of m b.columns) (padded m (elems m e))) where
     -- What is left before the end of the block.
     abbrev rest : List (Elem m)
-    rest = clear (ops m) (take (length e) b.columns.marks) (map (take (length e)) (rows_of m b.columns)) (elems m e)
+    rest = clear (ops m) (take (length e) (marks_of b.columns)) (map (take (length e)) (rows_of m b.columns)) (elems m e)
 
     -- It is what the program has there.
     rest_is : take (length e) (elems m left) ≡ rest
@@ -82,20 +73,20 @@ module _ {m : Meaning} (l : Laws m) where
 
     -- The column part.
     column_is : (start : List ℕ) → elems m start ≡ padded m (elems m e)
-        → take (length e) (codes (minus l start left)) ≡ codes (mix (ops m) (length (elems m e)) (map (take (length e)) (rows_of m b.columns)) (pick (take (length e) b.columns.marks) (elems m e)))
+        → take (length e) (codes (minus l start left)) ≡ codes (mix (ops m) (length (elems m e)) (map (take (length e)) (rows_of m b.columns)) (pick (take (length e) (marks_of b.columns)) (elems m e)))
     column_is start es =
         take-map (λ x. x.code) (length e) (minus l start left)
         ∙ ap codes (Narrow.take_plus laws (length e) (elems m start) (map (ops m).neg (elems m left))
         ∙ ap (λ w. plus (ops m) w (take (length e) (map (ops m).neg (elems m left)))) (ap (take (length e)) es ∙ take_at (elems m e) (replicate (8 - length (elems m e)) (ops m).zero) (length e) (length-map e (elem m)))
         ∙ ap (plus (ops m) (elems m e)) (take-map (ops m).neg (length e) (elems m left) ∙ ap (map (ops m).neg) rest_is)
-        ∙ less_left laws (elems m e) taken (sym (Mixing.length_mix laws (length (elems m e)) (map (take (length e)) (rows_of m b.columns)) (pick (take (length e) b.columns.marks) (elems m e)))))
+        ∙ less_left laws (elems m e) taken (sym (Mixing.length_mix laws (length (elems m e)) (map (take (length e)) (rows_of m b.columns)) (pick (take (length e) (marks_of b.columns)) (elems m e)))))
       where
         taken : List (Elem m)
-        taken = mix (ops m) (length (elems m e)) (map (take (length e)) (rows_of m b.columns)) (pick (take (length e) b.columns.marks) (elems m e))
+        taken = mix (ops m) (length (elems m e)) (map (take (length e)) (rows_of m b.columns)) (pick (take (length e) (marks_of b.columns)) (elems m e))
 
   -- What is appended are the parts that no splitting has lighter.
   pub block_splits : (b : BlockHints) (e : List ℕ) {old new : PartsCodes} (start left full : List ℕ) {row column : List ℕ} → length e ≤ 8 → start ≡ e ++ replicate (8 - length e) 0
-      → (InForm m b.columns → elems m left ≡ clear (ops m) b.columns.marks (rows_of m b.columns) (elems m start))
+      → (InForm m b.columns → elems m left ≡ clear (ops m) (marks_of b.columns) (rows_of m b.columns) (elems m start))
       → (InForm m b.rows → full ≡ codes (map (reduced_by m b.rows) (elems m left))) → row ≡ codes (minus l left full) → column ≡ codes (minus l start left)
       → held new.full ≡ take 24 (held old.full ++ take (length e) full)
       → held new.row ≡ take 24 (held old.row ++ take (length e) row)
@@ -111,10 +102,10 @@ module _ {m : Meaning} (l : Laws m) where
   }
     where
       start_is : elems m start ≡ padded m (elems m e)
-      start_is = ap (elems m) es ∙ padded_is e
+      start_is = ap (elems m) es ∙ padded_numbers m e
 
-      left_is : elems m left ≡ clear (ops m) b.columns.marks (rows_of m b.columns) (padded m (elems m e))
-      left_is = el k.columns.form ∙ ap (clear (ops m) b.columns.marks (rows_of m b.columns)) start_is
+      left_is : elems m left ≡ clear (ops m) (marks_of b.columns) (rows_of m b.columns) (padded m (elems m e))
+      left_is = el k.columns.form ∙ ap (clear (ops m) (marks_of b.columns) (rows_of m b.columns)) start_is
 
       full_is : full ≡ codes (map (reduced_by m b.rows) (elems m left))
       full_is = ef k.rows.form

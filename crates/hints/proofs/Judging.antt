@@ -23,6 +23,7 @@ use Rattle.codes.specs.Holdings.{held as held_in}
 use Rattle.codes.specs.Fitness.{AllNot}
 use Rattle.hints.specs.Taking.{There, Unfixed, block_of, FreshRow, FreshColumn, Left, with_row, with_column}
 use Rattle.hints.proofs.Padding
+use Rattle.hints.proofs.Padding.{padded_numbers}
 
 -- One block changed: its row hints are counted anew.
 count_rows : {F : Type 0} (gs : List (Given F)) (i : ℕ) (d g : Given F) → i < length gs → row_count (set gs i g) + length (get_or gs i d).rows ≡ row_count gs + length g.rows
@@ -128,20 +129,20 @@ module _ {m : Meaning} (l : Laws m) where
       let same = Ranking.eight_answers l x e in
       subst P same (k form (subst (Row (ops m) 8) (sym same) ((Ranking.numerals l).fixed (elem m x))))
 
-  module _ {ns : List ℕ} {k b : ℕ} {h : Hints} {gs : List (Given (Elem m))} (there : There ns b) (held : Holds m ns k h gs) where
+  module _ {ns : List ℕ} {k b i : ℕ} {h : Hints} {gs : List (Given (Elem m))} (there : There ns b) (place : i ≡ b - 1) (held : Holds m ns k h gs) where
     -- Blocks count from 1.
     low : b - 1 < length ns
     low = omega (arith, there.0, there.1)
 
     -- The block that is meant, and its forms.
     abbrev block : BlockHints
-    block = get_or h.blocks (b - 1) no_block
+    block = get_or h.blocks i no_block
 
     here : BlockHolds m (get_or ns (b - 1) 0) block (block_of m gs b)
-    here = held.blocks (b - 1) low
+    here = subst (λ j. BlockHolds m (get_or ns (b - 1) 0) (get_or h.blocks j no_block) (block_of m gs b)) (sym place) (held.blocks (b - 1) low)
 
     -- One block changed: the hints with the new block, where one hint is more.
-    anew : (b' : BlockHints) (g : Given (Elem m)) (h' : Hints) → length ns ≤ 12 → length h.blocks ≡ 12 → BlockHolds m (get_or ns (b - 1) 0) b' g → h'.blocks ≡ set h.blocks (b - 1) b'
+    anew : (b' : BlockHints) (g : Given (Elem m)) (h' : Hints) → length ns ≤ 12 → length h.blocks ≡ 12 → BlockHolds m (get_or ns (b - 1) 0) b' g → h'.blocks ≡ set h.blocks i b'
         → h'.rows + length (block_of m gs b).rows ≡ h.rows + length g.rows → h'.columns + length (block_of m gs b).columns ≡ h.columns + length g.columns → h'.rows + h'.columns + k ≤ total ns
         → Holds m ns k h' (set gs (b - 1) g)
     anew b' g h' few room new eb er ec most =
@@ -149,7 +150,7 @@ module _ {m : Meaning} (l : Laws m) where
         let columns = count_columns gs (b - 1) (no_hints m) g (omega (arith, held.size, low)) in
         record {
           size = length-set gs (b - 1) g ∙ held.size;
-          blocks = λ j p. subst (λ bs. BlockHolds m (get_or ns j 0) (get_or bs j no_block) (get_or (set gs (b - 1) g) j (no_hints m))) (sym eb) (changed (b - 1) b' g low room few held new j p);
+          blocks = λ j p. subst (λ bs. BlockHolds m (get_or ns j 0) (get_or bs j no_block) (get_or (set gs (b - 1) g) j (no_hints m))) (sym (eb ∙ ap (λ j. set h.blocks j b') place)) (changed (b - 1) b' g low room few held new j p);
           rows = omega (arith, er, held.rows, rows);
           columns = omega (arith, ec, held.columns, columns);
           budget = omega (arith, most, er, ec, held.rows, held.columns, rows, columns);
@@ -169,13 +170,24 @@ module _ {m : Meaning} (l : Laws m) where
         row_fresh k = longer.new (row_among (block_of m gs b).rows here.rows (elem m x) k)
 
         -- A new one is held with the others.
-        pub row_taken : (h' : Hints) → length ns ≤ 12 → length h.blocks ≡ 12 → Left m ns k gs → h'.blocks ≡ set h.blocks (b - 1) (record { rows = g; columns = block.columns })
+        pub row_taken : (h' : Hints) → length ns ≤ 12 → length h.blocks ≡ 12 → Left m ns k gs → h'.blocks ≡ set h.blocks i (record { rows = g; columns = block.columns })
             → h'.rows ≡ h.rows + 1 → h'.columns ≡ h.columns → Holds m ns k h' (with_row m gs b x)
         row_taken h' few room left eb er ec =
             anew (record { rows = g; columns = block.columns }) (record { rows = elem m x ∷ (block_of m gs b).rows; columns = (block_of m gs b).columns }) h' few room
             (record { rows = row_more (block_of m gs b).rows here.rows (elem m x) longer; columns = here.columns; fit = here.fit }) eb (omega (arith, er)) (omega (arith, ec)) (omega (arith, left, er, ec, held.rows, held.columns))
 
-    module _ (c : List ℕ) (size : length c ≡ get_or ns (b - 1) 0) (few : get_or ns (b - 1) 0 ≤ 8) (fixed : AllNot (Unfixed m) c) (r : List ℕ) (e : elems m r ≡ padded m (elems m c)) where
+    module _ (each : (j : ℕ) → j < length ns → (1 ≤ get_or ns j 0) × (get_or ns j 0 ≤ 8)) (c : List ℕ) (long : length c ≡ get_or ns i 0) (fixed : AllNot (Unfixed m) c) (r : List ℕ)
+        (behind : length c ≤ 8 → r ≡ c ++ replicate (8 - length c) 0) where
+      -- The row is as long as its block, which is no longer than eight places.
+      pub column_size : length c ≡ get_or ns (b - 1) 0
+      column_size = long ∙ ap (λ j. get_or ns j 0) place
+
+      few : get_or ns (b - 1) 0 ≤ 8
+      few = (each (b - 1) low).1
+
+      padding : elems m r ≡ padded m (elems m c)
+      padding = ap (elems m) (behind (omega (arith, column_size, few))) ∙ padded_numbers m c
+
       -- Coefficients that are fixed codes are fixed elements.
       all_fixed : (d : List ℕ) → AllNot (Unfixed m) d → All (field.Fixed (ops m)) (elems m d)
       all_fixed [] u = tt
@@ -188,11 +200,11 @@ module _ {m : Meaning} (l : Laws m) where
               sym (Carrier.twists m y (sym same ∙ ap m.twist (sym (Carrier.counts l y code))))
 
       row : Row (ops m) (get_or ns (b - 1) 0) (elems m c)
-      row = (length-map c (elem m) ∙ size, all_fixed c fixed)
+      row = (length-map c (elem m) ∙ column_size, all_fixed c fixed)
 
       -- What an insertion says of the row.
       row_told : (P : List (Elem m) → Type 0) → (InForm m block.columns → Row (ops m) 8 (elems m r) → P (elems m r)) → P (padded m (elems m c))
-      row_told P k = subst P e (k here.columns.form (subst (Row (ops m) 8) (sym e) (column_row {f = block.columns} (get_or ns (b - 1) 0) few (block_of m gs b).columns here.fit here.columns (elems m c) row)))
+      row_told P k = subst P padding (k here.columns.form (subst (Row (ops m) 8) (sym padding) (column_row {f = block.columns} (get_or ns (b - 1) 0) few (block_of m gs b).columns here.fit here.columns (elems m c) row)))
 
       -- A column hint that the form spans depends on the others.
       pub column_depends : (InForm m block.columns → Row (ops m) 8 (elems m r) → AmongRows (ops m) 8 (rows_of m block.columns) (elems m r))
@@ -209,7 +221,7 @@ module _ {m : Meaning} (l : Laws m) where
         column_fresh k = wider.new (column_among (get_or ns (b - 1) 0) few (block_of m gs b).columns here.fit here.columns (elems m c) row k)
 
         -- A new one is held with the others.
-        pub column_taken : (h' : Hints) → length ns ≤ 12 → length h.blocks ≡ 12 → Left m ns k gs → h'.blocks ≡ set h.blocks (b - 1) (record { rows = block.rows; columns = g })
+        pub column_taken : (h' : Hints) → length ns ≤ 12 → length h.blocks ≡ 12 → Left m ns k gs → h'.blocks ≡ set h.blocks i (record { rows = block.rows; columns = g })
             → h'.rows ≡ h.rows → h'.columns ≡ h.columns + 1 → Holds m ns k h' (with_column m gs b c)
         column_taken h' many room left eb er ec =
             anew (record { rows = block.rows; columns = g }) (record { rows = (block_of m gs b).rows; columns = elems m c ∷ (block_of m gs b).columns }) h' many room

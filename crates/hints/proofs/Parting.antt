@@ -17,6 +17,7 @@ use Rattle.ranks.proofs.Mixing
 use Rattle.codes.specs.Holdings.{held}
 use Rattle.hints.specs.declared.parts.Parts.{Parts as PartsCodes}
 use Rattle.hints.specs.declared.holder.Hints.{Hints}
+use Rattle.hints.specs.declared.block.BlockHints.{BlockHints}
 use Rattle.hints.specs.Splittings.{Given, Parts}
 use Rattle.hints.specs.Holdings.{BlockHolds, Holds, no_block, no_hints}
 use Rattle.hints.specs.Least.{LeastParts, Lightest}
@@ -36,6 +37,12 @@ pub record Parted (m : Meaning) (ns : List ℕ) (gs : List (Given (Elem m))) (d 
   pub column : Held m so_far.column at (held p.column)
   pub rest : (f r c : List (Elem m)) → Lightest (ops m) (drop i gs) (cut (drop i ns) (drop at (elems m d))) (parts_from (drop i ns) f r c)
       → Lightest (ops m) gs (cut ns (elems m d)) (parts_from ns (so_far.full ++ f) (so_far.row ++ r) (so_far.column ++ c))
+
+-- So it is where what stands behind the first i blocks is `rest`.
+pub record PartedAt (m : Meaning) (ns : List ℕ) (gs : List (Given (Elem m))) (d : List ℕ) (i : ℕ) (rest : List ℕ) (p : PartsCodes) : Type 0 where
+  pub at : ℕ
+  pub behind : rest ≡ drop at d
+  pub parted : Parted m ns gs d i at p
 
 -- Parts by their words.
 abbrev parts : {F : Type 0} → List F → List F → List F → Parts F
@@ -203,3 +210,21 @@ module _ {m : Meaning} (l : Laws m) where
 
       lightest : Lightest (ops m) gs (cut ns (elems m d)) (parts_of m ns p)
       lightest = subst (Lightest (ops m) gs (cut ns (elems m d))) whole (k.rest [] [] [] nothing)
+
+  -- No block yet, of the whole difference.
+  pub parted_at_starts : {ns : List ℕ} {gs : List (Given (Elem m))} {d : List ℕ} {p : PartsCodes} → held p.full ≡ [] → held p.row ≡ [] → held p.column ≡ [] → Divided ns d → PartedAt m ns gs d 0 d p
+  parted_at_starts ef er ec v = record { at = 0; behind = refl; parted = parted_starts ef er ec v }
+
+  -- What is left has room for block i.
+  pub parted_at_room : {ns : List ℕ} {gs : List (Given (Elem m))} {d : List ℕ} {i : ℕ} {rest : List ℕ} {p : PartsCodes} → i < length ns → PartedAt m ns gs d i rest p → get_or ns i 0 ≤ length rest
+  parted_at_room {d = d} lt k = omega (arith, parted_room lt k.parted, ap length k.behind, length-drop k.at d)
+
+  -- One block more, from the front of what is left.
+  pub parted_at_goes_on : {ns : List ℕ} {k : ℕ} {h : Hints} {gs : List (Given (Elem m))} {d : List ℕ} {i : ℕ} {rest : List ℕ} {p q : PartsCodes} {n : ℕ} {b : BlockHints} (here after : List ℕ)
+      → Holds m ns k h gs → Divided ns d → i < length ns → n ≡ get_or ns i 0 → b ≡ get_or h.blocks i no_block → here ≡ take n rest → after ≡ drop n rest
+      → ((g : Given (Elem m)) → BlockHolds m (length here) b g → BlockSplit m here g p q) → PartedAt m ns gs d i rest p → PartedAt m ns gs d (i + 1) after q
+  parted_at_goes_on {d = d} {p = p} {q = q} {n = n} here after holds v lt en eb eh ea split w = record {
+    at = w.at + n;
+    behind = ea ∙ ap (drop n) w.behind ∙ drop-drop n w.at d;
+    parted = parted_goes_on holds v lt en (eh ∙ ap (take n) w.behind) (subst (λ b. (g : Given (Elem m)) → BlockHolds m (length here) b g → BlockSplit m here g p q) eb split) w.parted;
+  }

@@ -14,7 +14,7 @@ use Rattle.fields.proofs.Carrier
 use Rattle.fields.proofs.Digits
 use Rattle.skew.proofs.Sums.{cons_path}
 use Rattle.ranks.specs.Ranks.{Spanned}
-use Rattle.ranks.specs.Reduction.{Row, AmongRows, Reduced, rows_of, eight}
+use Rattle.ranks.specs.Reduction.{Row, AmongRows, Reduced, marks_of, rows_of, eight}
 use Rattle.ranks.specs.RowSteps.{clear}
 use Rattle.ranks.proofs.Spans
 use Rattle.ranks.proofs.Ranking
@@ -29,7 +29,7 @@ use Rattle.hints.proofs.Narrow
 use Rattle.hints.proofs.Narrow.{Late}
 
 abbrev pub way : (m : Meaning) → ℕ → BlockHints → Way (Elem m)
-way m n b = record { pivots = take n b.columns.marks; reduce = reduced_by m b.rows }
+way m n b = record { pivots = take n (marks_of b.columns); reduce = reduced_by m b.rows }
 
 module _ {m : Meaning} (l : Laws m) where
   -- The laws of the elements.
@@ -89,15 +89,15 @@ module _ {m : Meaning} (l : Laws m) where
 
     -- Elements are reduced by them.
     row_reduces : Reduces (ops m) (reduced_by m b.rows) (shown m n b).rows
-    row_reduces = subst (λ T. Reduces (ops m) T (shown m n b).rows) (fun_ext (λ x. sym (same x))) (ByDigits.by_digits laws 8 (eight m) (Ranking.numerals l) b.rows.marks (shown m n b).rows formed)
+    row_reduces = subst (λ T. Reduces (ops m) T (shown m n b).rows) (fun_ext (λ x. sym (same x))) (ByDigits.by_digits laws 8 (eight m) (Ranking.numerals l) (marks_of b.rows) (shown m n b).rows formed)
       where
-        formed : Reduced (ops m) 8 b.rows.marks (map (eight m) (shown m n b).rows)
-        formed = subst (Reduced (ops m) 8 b.rows.marks) (sym digits_are) k.rows.form.reduced
+        formed : Reduced (ops m) 8 (marks_of b.rows) (map (eight m) (shown m n b).rows)
+        formed = subst (Reduced (ops m) 8 (marks_of b.rows)) (sym digits_are) k.rows.form.reduced
 
-        same : (x : Elem m) → reduced_by m b.rows x ≡ (ops m).add x ((ops m).neg (ByDigits.off laws 8 (eight m) (Ranking.numerals l) b.rows.marks (shown m n b).rows formed x))
+        same : (x : Elem m) → reduced_by m b.rows x ≡ (ops m).add x ((ops m).neg (ByDigits.off laws 8 (eight m) (Ranking.numerals l) (marks_of b.rows) (shown m n b).rows formed x))
         same x =
-            ap (λ w. from_digits m (clear (ops m) b.rows.marks w (eight m x))) (sym digits_are)
-            ∙ ap (from_digits m) (sym (ByDigits.clear_digits laws 8 (eight m) (Ranking.numerals l) b.rows.marks (shown m n b).rows formed x)) ∙ from_eight _
+            ap (λ w. from_digits m (clear (ops m) (marks_of b.rows) w (eight m x))) (sym digits_are)
+            ∙ ap (from_digits m) (sym (ByDigits.clear_digits laws 8 (eight m) (Ranking.numerals l) (marks_of b.rows) (shown m n b).rows formed x)) ∙ from_eight _
 
     -- The rows of the column hints are zero behind the block.
     columns_late : All (Late (ops m) n) (rows_of m b.columns)
@@ -105,7 +105,7 @@ module _ {m : Meaning} (l : Laws m) where
 
     -- The hints that are shown lead to the least splitting.
     pub block_leads : Leads (ops m) n (way m n b) (shown m n b)
-    block_leads = record { reduced = Narrow.narrow_reduced laws n 8 b.columns.marks (rows_of m b.columns) le k.columns.form.reduced columns_late; reduces = row_reduces }
+    block_leads = record { reduced = Narrow.narrow_reduced laws n 8 (marks_of b.columns) (rows_of m b.columns) le k.columns.form.reduced columns_late; reduces = row_reduces }
 
     -- They are like the hints that are held.
     pub block_alike : Like (ops m) n (shown m n b) g
@@ -129,15 +129,15 @@ module _ {m : Meaning} (l : Laws m) where
 
     -- A row of the block is cleared by them as the row with zeros behind is by the form, which stays zero behind the block.
     pub narrow_clear : (v : List (Elem m)) → length v ≡ n
-        → (clear (ops m) (take n b.columns.marks) (map (take n) (rows_of m b.columns)) v ≡ take n (clear (ops m) b.columns.marks (rows_of m b.columns) (padded m v)))
-        × Late (ops m) n (clear (ops m) b.columns.marks (rows_of m b.columns) (padded m v))
+        → (clear (ops m) (take n (marks_of b.columns)) (map (take n) (rows_of m b.columns)) v ≡ take n (clear (ops m) (marks_of b.columns) (rows_of m b.columns) (padded m v)))
+        × Late (ops m) n (clear (ops m) (marks_of b.columns) (rows_of m b.columns) (padded m v))
     narrow_clear v e = (
-      subst (λ i. clear (ops m) (take i b.columns.marks) (map (take i) (rows_of m b.columns)) v ≡ take i (clear (ops m) b.columns.marks (rows_of m b.columns) (padded m v))) e (Narrow.clear_front laws b.columns.marks (rows_of m b.columns) v (replicate (8 - length v) (ops m).zero) red late),
-      subst (λ i. Late (ops m) i (clear (ops m) b.columns.marks (rows_of m b.columns) (padded m v))) e (Narrow.clear_behind laws b.columns.marks (rows_of m b.columns) v (replicate (8 - length v) (ops m).zero) red late (zeros_behind (8 - length v))),
+      subst (λ i. clear (ops m) (take i (marks_of b.columns)) (map (take i) (rows_of m b.columns)) v ≡ take i (clear (ops m) (marks_of b.columns) (rows_of m b.columns) (padded m v))) e (Narrow.clear_front laws (marks_of b.columns) (rows_of m b.columns) v (replicate (8 - length v) (ops m).zero) red late),
+      subst (λ i. Late (ops m) i (clear (ops m) (marks_of b.columns) (rows_of m b.columns) (padded m v))) e (Narrow.clear_behind laws (marks_of b.columns) (rows_of m b.columns) v (replicate (8 - length v) (ops m).zero) red late (zeros_behind (8 - length v))),
     )
       where
-        red : Reduced (ops m) (length (padded m v)) b.columns.marks (rows_of m b.columns)
-        red = subst (λ i. Reduced (ops m) i b.columns.marks (rows_of m b.columns)) (sym (length_padded v (omega arith))) k.columns.form.reduced
+        red : Reduced (ops m) (length (padded m v)) (marks_of b.columns) (rows_of m b.columns)
+        red = subst (λ i. Reduced (ops m) i (marks_of b.columns) (rows_of m b.columns)) (sym (length_padded v (omega arith))) k.columns.form.reduced
 
         late : All (Late (ops m) (length v)) (rows_of m b.columns)
         late = subst (λ i. All (Late (ops m) i) (rows_of m b.columns)) (sym e) columns_late

@@ -32,7 +32,7 @@ pub record BlockHolds (m : Meaning) (n : ℕ) (b : BlockHints) (g : Given (Elem 
 
 -- What stands at no place of a list of blocks, and no hints.
 abbrev pub no_block : BlockHints
-no_block = record { rows = record { rows = []; marks = [] }; columns = record { rows = []; marks = [] } }
+no_block = record { rows = record { rows = [] }; columns = record { rows = [] } }
 
 abbrev pub no_hints : (m : Meaning) → Given (Elem m)
 no_hints m = record { rows = []; columns = [] }

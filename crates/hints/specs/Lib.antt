@@ -4,3 +4,4 @@ pub mod Least
 pub mod Shown
 pub mod Outcomes
 pub mod Taking
+pub mod Reasons

@@ -7,7 +7,7 @@ use Rattle.std.specs.Prelude.{ℕ, List, map, take}
 use Rattle.fields.specs.Field.{comb}
 use Rattle.fields.specs.Meaning.{Meaning}
 use Rattle.fields.specs.Elements.{Elem, ops, basis_of}
-use Rattle.ranks.specs.Reduction.{rows_of, eight}
+use Rattle.ranks.specs.Reduction.{marks_of, rows_of, eight}
 use Rattle.ranks.specs.RowSteps.{clear}
 use Rattle.ranks.specs.declared.rows.Form.{Form}
 use Rattle.hints.specs.declared.block.BlockHints.{BlockHints}
@@ -21,4 +21,4 @@ module _ (m : Meaning) where
   shown n b = record { rows = map from_digits (rows_of m b.rows); columns = map (take n) (rows_of m b.columns) }
 
   abbrev pub reduced_by : Form → Elem m → Elem m
-  reduced_by f x = from_digits (clear (ops m) f.marks (rows_of m f) (eight m x))
+  reduced_by f x = from_digits (clear (ops m) (marks_of f) (rows_of m f) (eight m x))

@@ -7,18 +7,17 @@
 --   FreshRow m gs b x             x is no sum of the row hints of block b times fixed coefficients
 --   FreshColumn m ns gs b h       so of column hints
 --   Unfixed m c                    c is no code, or twist alters it
---   RowJudged m ns k gs b x v     the verdict on a row hint
+--   RowJudged m ns k gs b x v     the verdict on a row hint: taken, or why not
 --   ColumnJudged ..               the verdict on a column hint
 --   with_row, with_column          the hints with one more in block b
---   After v P Q                    P where the hint is taken, else Q
-use Rattle.std.specs.Prelude.{◌≡◌, ℕ, ◌+◌, ◌-◌, ◌<◌, ◌≤◌, ◌≢◌, ◌⊎◌, List, ◌∷◌, length, slice_index, slice_index_or, slice_set}
+use Rattle.std.specs.Prelude.{◌≡◌, ℕ, ◌+◌, ◌-◌, ◌<◌, ◌≤◌, ◌≢◌, ◌⊎◌, List, ◌∷◌, Result, Ok, Err, length, slice_index, slice_index_or, slice_set}
 use Rattle.fields.specs.Meaning.{Meaning}
 use Rattle.fields.specs.Elements.{Elem, elem, elems, ops}
 use Rattle.ranks.specs.Ranks.{total, Spanned}
 use Rattle.ranks.specs.Reduction.{AmongRows}
 use Rattle.codes.specs.Fitness.{First, AllNot}
-use Rattle.hints.specs.declared.verdict.Verdict.{Verdict}
-use Rattle.hints.specs.declared.verdict.Verdict.TheVariants.{Taken, NoBlock, WrongLength, NoCode, Dependent, Spent}
+use Rattle.hints.specs.declared.not_taken.NotTaken.{NotTaken}
+use Rattle.hints.specs.declared.not_taken.NotTaken.TheVariants.{NoBlock, WrongLength, NoCode, Dependent, Spent}
 use Rattle.hints.specs.Splittings.{Given, row_count, column_count}
 use Rattle.hints.specs.Holdings.{no_hints}
 
@@ -27,14 +26,6 @@ There ns b = (1 ≤ b) × (b ≤ length ns)
 
 abbrev pub Unfixed : Meaning → ℕ → Type 0
 Unfixed m c = (m.size ≤ c) ⊎ (m.twist c ≢ c)
-
-abbrev pub After : Verdict → Type 0 → Type 0 → Type 0
-After Taken P Q = P
-After NoBlock P Q = Q
-After WrongLength P Q = Q
-After (NoCode i) P Q = Q
-After Dependent P Q = Q
-After Spent P Q = Q
 
 module _ (m : Meaning) where
   abbrev pub block_of : List (Given (Elem m)) → ℕ → Given (Elem m)
@@ -49,22 +40,22 @@ module _ (m : Meaning) where
   abbrev pub Left : List ℕ → ℕ → List (Given (Elem m)) → Type 0
   Left ns k gs = k + (row_count gs + column_count gs) < total ns
 
-  abbrev pub RowJudged : List ℕ → ℕ → List (Given (Elem m)) → ℕ → ℕ → Verdict → Type 0
-  RowJudged ns k gs b x NoBlock = ¬ There ns b
-  RowJudged ns k gs b x WrongLength = ⊥
-  RowJudged ns k gs b x (NoCode i) = There ns b × (m.size ≤ x) × (i ≡ 0)
-  RowJudged ns k gs b x Dependent = There ns b × (x < m.size) × Spanned (ops m) (block_of gs b).rows (elem m x)
-  RowJudged ns k gs b x Spent = There ns b × (x < m.size) × FreshRow gs b x × (¬ Left ns k gs)
-  RowJudged ns k gs b x Taken = There ns b × (x < m.size) × FreshRow gs b x × Left ns k gs
+  abbrev pub RowJudged : List ℕ → ℕ → List (Given (Elem m)) → ℕ → ℕ → Result (Unit {0}) NotTaken → Type 0
+  RowJudged ns k gs b x (Err NoBlock) = ¬ There ns b
+  RowJudged ns k gs b x (Err WrongLength) = ⊥
+  RowJudged ns k gs b x (Err (NoCode i)) = There ns b × (m.size ≤ x) × (i ≡ 0)
+  RowJudged ns k gs b x (Err Dependent) = There ns b × (x < m.size) × Spanned (ops m) (block_of gs b).rows (elem m x)
+  RowJudged ns k gs b x (Err Spent) = There ns b × (x < m.size) × FreshRow gs b x × (¬ Left ns k gs)
+  RowJudged ns k gs b x (Ok tt) = There ns b × (x < m.size) × FreshRow gs b x × Left ns k gs
 
-  abbrev pub ColumnJudged : List ℕ → ℕ → List (Given (Elem m)) → ℕ → List ℕ → Verdict → Type 0
-  ColumnJudged ns k gs b h NoBlock = ¬ There ns b
-  ColumnJudged ns k gs b h WrongLength = There ns b × (length h ≢ slice_index ns (b - 1))
-  ColumnJudged ns k gs b h (NoCode i) = There ns b × (length h ≡ slice_index ns (b - 1)) × First (Unfixed m) h i
-  ColumnJudged ns k gs b h Dependent =
+  abbrev pub ColumnJudged : List ℕ → ℕ → List (Given (Elem m)) → ℕ → List ℕ → Result (Unit {0}) NotTaken → Type 0
+  ColumnJudged ns k gs b h (Err NoBlock) = ¬ There ns b
+  ColumnJudged ns k gs b h (Err WrongLength) = There ns b × (length h ≢ slice_index ns (b - 1))
+  ColumnJudged ns k gs b h (Err (NoCode i)) = There ns b × (length h ≡ slice_index ns (b - 1)) × First (Unfixed m) h i
+  ColumnJudged ns k gs b h (Err Dependent) =
       There ns b × (length h ≡ slice_index ns (b - 1)) × AllNot (Unfixed m) h × AmongRows (ops m) (slice_index ns (b - 1)) (block_of gs b).columns (elems m h)
-  ColumnJudged ns k gs b h Spent = There ns b × (length h ≡ slice_index ns (b - 1)) × AllNot (Unfixed m) h × FreshColumn ns gs b h × (¬ Left ns k gs)
-  ColumnJudged ns k gs b h Taken = There ns b × (length h ≡ slice_index ns (b - 1)) × AllNot (Unfixed m) h × FreshColumn ns gs b h × Left ns k gs
+  ColumnJudged ns k gs b h (Err Spent) = There ns b × (length h ≡ slice_index ns (b - 1)) × AllNot (Unfixed m) h × FreshColumn ns gs b h × (¬ Left ns k gs)
+  ColumnJudged ns k gs b h (Ok tt) = There ns b × (length h ≡ slice_index ns (b - 1)) × AllNot (Unfixed m) h × FreshColumn ns gs b h × Left ns k gs
 
   abbrev pub with_row : List (Given (Elem m)) → ℕ → ℕ → List (Given (Elem m))
   with_row gs b x = slice_set gs (b - 1) (record { rows = elem m x ∷ (block_of gs b).rows; columns = (block_of gs b).columns })

@@ -3,13 +3,13 @@
 
 mod block;
 mod holder;
+mod not_taken;
 mod parts;
 mod splitting;
 mod taking;
-mod verdict;
 
 pub use block::BlockHints;
 pub use holder::Hints;
+pub use not_taken::NotTaken;
 pub use parts::Parts;
 pub use splitting::{element_of, least_splitting, row_of};
-pub use verdict::Verdict;

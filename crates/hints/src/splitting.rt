@@ -14,16 +14,16 @@ use super::holder::Hints;
 use super::parts::Parts;
 use codes::Symbols;
 use fields::Kind;
-use ranks::{Form, Row, WIDTH, cleared};
+use ranks::{Form, Row, cleared};
 
 // The element with these digits.
 pub fn element_of<K: Kind>(kind: &K, row: &Row) -> u8
     ensures { let m = K.meaning kind.now in result ≡ (from_digits m (row_of m row.now)).code }
 {
     let mut total = 0;
-    for i in 0..WIDTH {
+    for (i, digit) in row.cells.iter().enumerate() {
         let base = kind.basis(i + 1);
-        let term = kind.product(row.cells[i], base);
+        let term = kind.product(*digit, base);
         total = kind.sum(total, term);
     }
     total
@@ -33,9 +33,8 @@ pub fn element_of<K: Kind>(kind: &K, row: &Row) -> u8
 fn reduced<K: Kind>(kind: &K, form: &Form, x: u8) -> u8
     ensures { let m = K.meaning kind.now in (InForm m form.now → result ≡ (reduced_by m form.now (elem m x)).code) }
 {
-    let digits = kind.digits(x);
-    let row = Row { cells: digits };
-    let left = cleared(kind, form, &row);
+    let digits = Row::of_digits(kind, x);
+    let left = cleared(kind, form, &digits);
     element_of(kind, &left)
 }
 
@@ -44,12 +43,7 @@ fn reduced_row<K: Kind>(kind: &K, form: &Form, row: &Row) -> Row
     ensures { let m = K.meaning kind.now in
         (InForm m form.now → result.cells ≡ codes (map (reduced_by m form.now) (row_of m row.now))) }
 {
-    let mut out = *row;
-    for i in 0..WIDTH {
-        let here = reduced(kind, form, row.cells[i]);
-        out.cells[i] = here;
-    }
-    out
+    Row::from_fn(|i| reduced(kind, form, row.cells[i]))
 }
 
 // a less b, place by place.
@@ -57,27 +51,17 @@ fn less<K: Kind>(kind: &K, a: &Row, b: &Row) -> Row
     ensures { let m = K.meaning kind.now in
         result.cells ≡ codes (plus (ops m) (row_of m a.now) (map (ops m).neg (row_of m b.now))) }
 {
-    let mut out = *a;
-    for i in 0..WIDTH {
+    Row::from_fn(|i| {
         let minus = kind.opposite(b.cells[i]);
-        let here = kind.sum(a.cells[i], minus);
-        out.cells[i] = here;
-    }
-    out
+        kind.sum(a.cells[i], minus)
+    })
 }
 
 // At most eight symbols, with zeros behind; no more than eight are looked at.
 pub fn row_of(symbols: &[u8]) -> Row
     ensures { let e = symbols.now in (length e ≤ 8 → result.cells ≡ e ++ replicate (8 - length e) 0) }
 {
-    let mut out = Row { cells: [0; 8] };
-    if symbols.len() > WIDTH {
-        return out;
-    }
-    for i in 0..symbols.len() {
-        out.cells[i] = symbols[i];
-    }
-    out
+    Row::from_fn(|i| symbols.get(i).copied().unwrap_or(0))
 }
 
 // The first n symbols of the row, behind the others.
@@ -85,8 +69,8 @@ fn append(symbols: &mut Symbols, row: &Row, n: usize)
     requires { n ≤ 8 }
     ensures { held symbols.new ≡ take 24 (held symbols.old ++ take n row.now.cells) }
 {
-    for i in 0..n {
-        symbols.push(row.cells[i]);
+    for x in &row.cells[..n] {
+        symbols.push(*x);
     }
 }
 
@@ -117,22 +101,16 @@ pub fn least_splitting<K: Kind>(kind: &K, lengths: &[u8], hints: &Hints, differe
         row: Symbols::empty(),
         column: Symbols::empty(),
     };
-    let mut at = 0;
-    for i in 0..lengths.len() {
-        let n = lengths[i] as usize;
-        if i >= 12 {
+    let mut rest = difference;
+    for (n, block) in lengths.iter().zip(&hints.blocks) {
+        if *n > 8 {
             return parts;
         }
-        if n > 8 {
+        let Some((here, behind)) = rest.split_at_checked(*n as usize) else {
             return parts;
-        }
-        if n > difference.len() - at {
-            return parts;
-        }
-        let end = at + n;
-        let block = hints.blocks[i];
-        split_block(kind, &block, &difference[at..end], &mut parts);
-        at = end;
+        };
+        split_block(kind, block, here, &mut parts);
+        rest = behind;
     }
     parts
 }

@@ -1,5 +1,5 @@
 // Hints, judged one after the other as they arrive.
-ghost use Rattle.std.specs.Prelude.{◌≡◌, ℕ, ◌+◌, ◌≤◌, List, length, replicate, MatchOption};
+ghost use Rattle.std.specs.Prelude.{◌≡◌, ℕ, ◌+◌, ◌-◌, ◌≤◌, List, length, replicate, MatchOption, MatchResult, IfErr, OnOk, OnErr};
 ghost use Rattle.fields.specs.Meaning.{Meaning};
 ghost use Rattle.fields.specs.Elements.{Elem, ops};
 ghost use Rattle.ranks.specs.Ranks.{total, Tells};
@@ -8,12 +8,13 @@ ghost use Rattle.codes.specs.Holdings.{held, stops};
 ghost use Rattle.codes.specs.Fitness.{First, AllNot};
 ghost use Rattle.hints.specs.Splittings.{Given};
 ghost use Rattle.hints.specs.Holdings.{no_hints, Holds};
-ghost use Rattle.hints.specs.Taking.{Unfixed, After, RowJudged, ColumnJudged, with_row, with_column};
+ghost use Rattle.hints.specs.declared.not_taken.NotTaken.TheVariants.{NoBlock, Dependent};
+ghost use Rattle.hints.specs.Taking.{There, Unfixed, RowJudged, ColumnJudged, with_row, with_column};
 
 use super::block::BlockHints;
 use super::holder::Hints;
+use super::not_taken::NotTaken;
 use super::splitting::row_of;
-use super::verdict::Verdict;
 use codes::Code;
 use fields::Kind;
 use ranks::{Form, Row};
@@ -23,28 +24,36 @@ fn first_unfixed<K: Kind>(kind: &K, coefficients: &[u8]) -> Option<usize>
     ensures { let m = K.meaning kind.now in let h = coefficients.now in
         MatchOption result (AllNot (Unfixed m) h) (λ i. First (Unfixed m) h i) }
 {
-    let size = kind.size();
-    for i in 0..coefficients.len() {
-        let c = coefficients[i];
-        if (c as u16) >= size {
-            return Some(i);
-        }
-        let twisted = kind.twist(c);
-        if twisted != c {
-            return Some(i);
-        }
-    }
-    None
+    coefficients.iter().position(|c| {
+        let twisted = kind.twist(*c);
+        (*c as u16) >= kind.size() || twisted != *c
+    })
 }
 
-// The form with one row more; nothing where the row is a sum of its rows with fixed coefficients.
-fn extended<K: Kind>(kind: &K, form: &Form, row: &Row) -> Option<Form>
-    ensures { let m = K.meaning kind.now in let f = form.now in let h = row_of m row.now in
-        (InForm m f → FixedRow (ops m) 8 h → MatchOption result (AmongRows (ops m) 8 (rows_of m f) h) (λ g. Extended m f h g)) }
+// The place of a block among the blocks of a code, which count from 1.
+fn place_of(code: &Code, block: usize) -> Result<usize, NotTaken>
+    ensures { let ns = held code.now.lengths in
+        MatchResult result (λ i. There ns block × (i ≡ block - 1)) (λ e. (e ≡ NoBlock) × (¬ There ns block)) }
+{
+    if block == 0 || block > code.lengths.len() {
+        return Err(NotTaken::NoBlock);
+    }
+    Ok(block - 1)
+}
+
+// The form with one row more, which is no sum of its rows with fixed coefficients.
+fn extended<K: Kind>(kind: &K, form: &Form, row: &Row) -> Result<Form, NotTaken>
+    ensures refused { IfErr result (λ e. e ≡ Dependent) }
+    ensures extends { let m = K.meaning kind.now in let f = form.now in let h = row_of m row.now in
+        (InForm m f → FixedRow (ops m) 8 h → MatchResult result (λ g. Extended m f h g) (λ _. AmongRows (ops m) 8 (rows_of m f) h)) }
 {
     let mut more = *form;
     let fresh = more.insert(kind, row);
-    if fresh { Some(more) } else { None }
+    if fresh {
+        Ok(more)
+    } else {
+        Err(NotTaken::Dependent)
+    }
 }
 
 impl Hints {
@@ -73,35 +82,31 @@ impl Hints {
 
     // Takes a row hint for a block, counted from 1: an element said to be in the column space of the error there. What is not
     // taken alters nothing.
-    pub fn add_row<K: Kind>(&mut self, kind: &K, code: &Code, block: usize, element: u8) -> Verdict
-        ensures kept { After result (Unit {0}) (self.new ≡ self.old) }
+    pub fn add_row<K: Kind>(
+        &mut self,
+        kind: &K,
+        code: &Code,
+        block: usize,
+        element: u8,
+    ) -> Result<(), NotTaken>
+        ensures kept { OnErr result (self.new ≡ self.old) }
         ensures judged { let m = K.meaning kind.now in let ns = held code.now.lengths in let k = code.now.dimension in
             ((gs : List (Given (Elem m))) → Holds m ns k self.old gs
-            → RowJudged m ns k gs block element result × After result (Holds m ns k self.new (with_row m gs block element)) (Unit {0})) }
+            → RowJudged m ns k gs block element result × OnOk result (Holds m ns k self.new (with_row m gs block element))) }
     {
-        if block == 0 {
-            return Verdict::NoBlock;
+        let at = place_of(code, block)?;
+        if (element as u16) >= kind.size() {
+            return Err(NotTaken::NoCode(0));
         }
-        if block > code.lengths.len() {
-            return Verdict::NoBlock;
-        }
-        let size = kind.size();
-        if (element as u16) >= size {
-            return Verdict::NoCode(0);
-        }
-        let digits = kind.digits(element);
-        let row = Row { cells: digits };
-        let mut entry = self.blocks[block - 1];
-        let Some(form) = extended(kind, &entry.rows, &row) else {
-            return Verdict::Dependent;
-        };
+        let row = Row::of_digits(kind, element);
+        let mut entry = self.blocks[at];
+        entry.rows = extended(kind, &entry.rows, &row)?;
         if self.spent(code) {
-            return Verdict::Spent;
+            return Err(NotTaken::Spent);
         }
-        entry.rows = form;
-        self.blocks[block - 1] = entry;
+        self.blocks[at] = entry;
         self.rows += 1;
-        Verdict::Taken
+        Ok(())
     }
 
     // Takes a column hint for a block, counted from 1: a row of fixed coefficients, as many as the block has symbols, said to be
@@ -112,36 +117,28 @@ impl Hints {
         code: &Code,
         block: usize,
         coefficients: &[u8],
-    ) -> Verdict
-        ensures kept { After result (Unit {0}) (self.new ≡ self.old) }
+    ) -> Result<(), NotTaken>
+        ensures kept { OnErr result (self.new ≡ self.old) }
         ensures judged { let m = K.meaning kind.now in let ns = held code.now.lengths in let k = code.now.dimension in
             let h = coefficients.now in
             ((gs : List (Given (Elem m))) → Holds m ns k self.old gs
-            → ColumnJudged m ns k gs block h result × After result (Holds m ns k self.new (with_column m gs block h)) (Unit {0})) }
+            → ColumnJudged m ns k gs block h result × OnOk result (Holds m ns k self.new (with_column m gs block h))) }
     {
-        if block == 0 {
-            return Verdict::NoBlock;
-        }
-        if block > code.lengths.len() {
-            return Verdict::NoBlock;
-        }
-        if coefficients.len() != code.lengths.get(block - 1) as usize {
-            return Verdict::WrongLength;
+        let at = place_of(code, block)?;
+        if coefficients.len() != code.lengths.get(at) as usize {
+            return Err(NotTaken::WrongLength);
         }
         if let Some(i) = first_unfixed(kind, coefficients) {
-            return Verdict::NoCode(i);
+            return Err(NotTaken::NoCode(i));
         }
         let row = row_of(coefficients);
-        let mut entry = self.blocks[block - 1];
-        let Some(form) = extended(kind, &entry.columns, &row) else {
-            return Verdict::Dependent;
-        };
+        let mut entry = self.blocks[at];
+        entry.columns = extended(kind, &entry.columns, &row)?;
         if self.spent(code) {
-            return Verdict::Spent;
+            return Err(NotTaken::Spent);
         }
-        entry.columns = form;
-        self.blocks[block - 1] = entry;
+        self.blocks[at] = entry;
         self.columns += 1;
-        Verdict::Taken
+        Ok(())
     }
 }

@@ -36,7 +36,7 @@ put (suc q) x [] = x ∷ []
 put (suc q) x (y ∷ xs) = y ∷ put q x xs
 
 -- Images of a list that something was put into.
-map_put : {A B : Type 0} (f : A → B) (q : ℕ) (x : A) (xs : List A) → map f (put q x xs) ≡ put q (f x) (map f xs)
+pub map_put : {A B : Type 0} (f : A → B) (q : ℕ) (x : A) (xs : List A) → map f (put q x xs) ≡ put q (f x) (map f xs)
 map_put f ℕ.zero x xs = refl
 map_put f (suc q) x [] = refl
 map_put {B = B} f (suc q) x (y ∷ xs) = ap {B = List B} (λ w. f y ∷ w) (map_put f q x xs)

@@ -20,7 +20,7 @@ use Rattle.skew.specs.Roots.{Independent}
 use Rattle.skew.proofs.Everywhere.{all_append, all_left, all_right}
 use Rattle.skew.proofs.Sums.{cons_path}
 use Rattle.ranks.specs.Ranks.{pick, Spanned, IsRank, Depends}
-use Rattle.ranks.specs.Reduction.{mix, Row, AmongRows, Reduced, rows_of, InForm, Inserted, eight}
+use Rattle.ranks.specs.Reduction.{mix, Row, AmongRows, Reduced, marks_of, rows_of, InForm, Inserted, eight}
 use Rattle.ranks.specs.declared.rows.Form.{Form}
 use Rattle.ranks.proofs.Spans
 use Rattle.ranks.proofs.Mixing
@@ -354,7 +354,7 @@ module _ {m : Meaning} (l : Laws m) where
   counting_ends ys {i} {n} {f} le k =
       let c : Counting ys f n = subst (λ w. Counting w f n) (take_all i ys le) k in
       subst (IsRank (ops m) (elems m ys)) (sym c.rows)
-      (rank_as laws 8 (eight m) numerals (elems m ys) f.marks (rows_of m f) c.spanning.form.reduced c.spanning.gives c.spanning.given)
+      (rank_as laws 8 (eight m) numerals (elems m ys) (marks_of f) (rows_of m f) c.spanning.form.reduced c.spanning.gives c.spanning.given)
 
   -- What is kept while no locator depends on the earlier ones.
   pub record Free (xs : List ℕ) (f : Form) : Type 0 where

@@ -7,16 +7,17 @@
 --   AmongRows o n hs h    h is a sum of the rows hs times fixed coefficients
 --   Pivots o j marks hs    at the marked places, one after the other, row j, row j + 1 and so on has one, and each other row zero
 --   Reduced o n marks hs   as many rows as marks among n places, fixed, with their pivots at the marked places
+--   in_use xs              what stands in a list of which some is not in use
+--   marks_of f             which places of a form of the program are in use
 --   row, rows_of, InForm  a row and the rows of a form of the program, in elements; they are reduced
 --   Inserted m f h r g     what the insertion of a row answers and leaves
 --   eight m x              the digits of x, with zeros up to eight places
-use Rattle.std.specs.Prelude.{◌≡◌, ℕ, suc, Bool, true, false, List, [], ◌∷◌, map, length, drop}
+use Rattle.std.specs.Prelude.{◌≡◌, ℕ, suc, Bool, true, false, List, [], ◌∷◌, map, length, drop, Option, Some, None, is_some}
 use Rattle.fields.specs.Lists.{All}
 use Rattle.fields.specs.Field.{Ops, Fixed, comb}
 use Rattle.fields.specs.Meaning.{Meaning, digit_row}
 use Rattle.fields.specs.Elements.{Elem, elems, ops}
 use Rattle.skew.specs.Products.{coef}
-use Rattle.ranks.specs.Ranks.{pick}
 use Rattle.ranks.specs.declared.rows.Row.{Row as RowCodes}
 use Rattle.ranks.specs.declared.rows.Form.{Form}
 
@@ -68,13 +69,20 @@ pub record Reduced {F : Type 0} (o : Ops F) (n : ℕ) (marks : List Bool) (hs : 
 abbrev pub row : (m : Meaning) → RowCodes → List (Elem m)
 row m r = elems m r.cells
 
--- The rows at marked places.
+abbrev pub in_use : {A : Type 0} → List (Option A) → List A
+in_use [] = []
+in_use (None ∷ xs) = in_use xs
+in_use (Some x ∷ xs) = x ∷ in_use xs
+
+abbrev pub marks_of : Form → List Bool
+marks_of f = map is_some f.rows
+
 abbrev pub rows_of : (m : Meaning) → Form → List (List (Elem m))
-rows_of m f = pick f.marks (map (row m) f.rows)
+rows_of m f = map (row m) (in_use f.rows)
 
 pub record InForm (m : Meaning) (f : Form) : Type 0 where
   pub room : length f.rows ≡ 8
-  pub reduced : Reduced (ops m) 8 f.marks (rows_of m f)
+  pub reduced : Reduced (ops m) 8 (marks_of f) (rows_of m f)
 
 -- The form g has one row more than f, h was not among the sums of the rows of f, and the rows of g have the sums of h and those.
 pub record Extended (m : Meaning) (f : Form) (h : List (Elem m)) (g : Form) : Type 0 where

@@ -9,14 +9,10 @@ use fields::Kind;
 pub fn conjugate<K: Kind>(kind: &K, a: u8, b: u8) -> bool
     ensures { let m = K.meaning kind.now in Tells result (Conjugate (ops m) (elem m a) (elem m b)) }
 {
-    for c in 1..kind.size() {
+    (1..kind.size()).any(|c| {
         let x = c as u8;
         let twisted = kind.twist(x);
         let from_a = kind.product(twisted, a);
-        let from_b = kind.product(b, x);
-        if from_a == from_b {
-            return true;
-        }
-    }
-    false
+        from_a == kind.product(b, x)
+    })
 }

@@ -14,9 +14,7 @@ pub fn rank<K: Kind>(kind: &K, symbols: &[u8]) -> usize
     let mut form = Form::empty();
     let mut count = 0;
     for x in symbols {
-        let digits = kind.digits(*x);
-        let row = Row { cells: digits };
-        let more = form.insert(kind, &row);
+        let more = form.insert(kind, &Row::of_digits(kind, *x));
         if more {
             count += 1;
         }
@@ -25,16 +23,14 @@ pub fn rank<K: Kind>(kind: &K, symbols: &[u8]) -> usize
 }
 
 // The first place whose locator is a combination of the earlier ones with fixed coefficients; nothing exactly where the
-// locators are independent.
+// locators are independent. A loop, since a closure that alters the form would say nothing of what `position` finds.
 pub fn dependent_at<K: Kind>(kind: &K, locators: &[u8]) -> Option<usize>
     ensures { let m = K.meaning kind.now in let ls = locators.now in
         MatchOption result (Independent (ops m) (elems m ls)) (λ i. Depends m ls i) }
 {
     let mut form = Form::empty();
-    for i in 0..locators.len() {
-        let digits = kind.digits(locators[i]);
-        let row = Row { cells: digits };
-        let more = form.insert(kind, &row);
+    for (i, x) in locators.iter().enumerate() {
+        let more = form.insert(kind, &Row::of_digits(kind, *x));
         if !more {
             return Some(i);
         }

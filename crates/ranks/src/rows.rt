@@ -1,13 +1,14 @@
 // Rows of eight fixed coefficients, and reduced forms of them.
-ghost use Rattle.std.specs.Prelude.{◌≡◌, ◌<◌, [], MatchOption};
+ghost use Rattle.std.specs.Prelude.{◌≡◌, ℕ, ◌<◌, [], length, slice_index, MatchOption};
 ghost use Rattle.fields.specs.Lists.{All};
 ghost use Rattle.fields.specs.Field.{Zero, plus, scale};
-ghost use Rattle.fields.specs.Meaning.{Meaning};
+ghost use Rattle.fields.specs.Meaning.{Meaning, digit_row};
 ghost use Rattle.fields.specs.Elements.{elem, ops};
-ghost use Rattle.ranks.specs.Reduction.{row as row_of, rows_of, InForm, Inserted, Row as FixedRow};
+ghost use Rattle.ranks.specs.Reduction.{row as row_of, marks_of, rows_of, InForm, Inserted, Row as FixedRow};
 ghost use Rattle.ranks.specs.RowSteps.{clear, PivotAt, Swept};
 
 use fields::Kind;
+use std::array;
 
 // How many places a row has.
 pub const WIDTH: usize = 8;
@@ -18,11 +19,10 @@ pub struct Row {
     pub cells: [u8; 8],
 }
 
-// The row with its pivot at place p stands at place p, and p is marked; what stands at other places is not in use.
+// The row with its pivot at place p stands at place p. A form is of no kind, so that it is reduced is said of it for each kind.
 #[derive(Clone, Copy)]
 pub struct Form {
-    pub rows: [Row; 8],
-    pub marks: [bool; 8],
+    pub rows: [Option<Row>; 8],
 }
 
 // Where a row is not 0, and the inverse of what stands there.
@@ -37,13 +37,10 @@ fn combined<K: Kind>(kind: &K, a: &Row, c: u8, b: &Row) -> Row
     ensures { let m = K.meaning kind.now in
         row_of m result ≡ plus (ops m) (row_of m a.now) (scale (ops m) (elem m c) (row_of m b.now)) }
 {
-    let mut out = *a;
-    for i in 0..WIDTH {
+    Row::from_fn(|i| {
         let term = kind.product(c, b.cells[i]);
-        let here = kind.sum(a.cells[i], term);
-        out.cells[i] = here;
-    }
-    out
+        kind.sum(a.cells[i], term)
+    })
 }
 
 // The first place where a row is not 0; nothing where it is 0 everywhere.
@@ -51,9 +48,9 @@ fn leading<K: Kind>(kind: &K, row: &Row) -> Option<Pivot>
     ensures { let m = K.meaning kind.now in let h = row_of m row.now in
         MatchOption result (All (Zero (ops m)) h) (λ t. PivotAt m h t.place t.inverse) }
 {
-    for i in 0..WIDTH {
-        if let Some(inverse) = kind.inverse(row.cells[i]) {
-            return Some(Pivot { place: i, inverse });
+    for (place, x) in row.cells.iter().enumerate() {
+        if let Some(inverse) = kind.inverse(*x) {
+            return Some(Pivot { place, inverse });
         }
     }
     None
@@ -62,14 +59,13 @@ fn leading<K: Kind>(kind: &K, row: &Row) -> Option<Pivot>
 // The row less each row of the form times what the row has at that one's pivot.
 pub fn cleared<K: Kind>(kind: &K, form: &Form, row: &Row) -> Row
     ensures { let m = K.meaning kind.now in
-        (InForm m form.now → row_of m result ≡ clear (ops m) form.now.marks (rows_of m form.now) (row_of m row.now)) }
+        (InForm m form.now → row_of m result ≡ clear (ops m) (marks_of form.now) (rows_of m form.now) (row_of m row.now)) }
 {
     let mut left = *row;
-    for p in 0..WIDTH {
-        if form.marks[p] {
-            let minus = kind.opposite(row.cells[p]);
-            let other = form.rows[p];
-            left = combined(kind, &left, minus, &other);
+    for (slot, x) in form.rows.iter().zip(&row.cells) {
+        if let Some(other) = slot {
+            let minus = kind.opposite(*x);
+            left = combined(kind, &left, minus, other);
         }
     }
     left
@@ -80,11 +76,35 @@ fn sweep<K: Kind>(kind: &K, form: &mut Form, p: usize, by: &Row)
     requires { p < 8 }
     ensures { let m = K.meaning kind.now in Swept m form.old p (row_of m by.now) form.new }
 {
-    for i in 0..WIDTH {
-        let row = form.rows[i];
-        let minus = kind.opposite(row.cells[p]);
-        let next = combined(kind, &row, minus, by);
-        form.rows[i] = next;
+    for slot in form.rows.iter_mut() {
+        if let Some(row) = slot {
+            let minus = kind.opposite(row.cells[p]);
+            *row = combined(kind, row, minus, by);
+        }
+    }
+}
+
+impl Row {
+    // The row of zeros.
+    pub const ZERO: Row = Row { cells: [0; 8] };
+
+    // The row with f(i) at each place i.
+    pub fn from_fn<F: Fn(usize) -> u8>(f: F) -> Row
+        requires { (i : ℕ) → i < 8 → F.pre f i }
+        ensures { (length result.cells ≡ 8) × ((i : ℕ) → i < 8 → F.post f i (slice_index result.cells i)) }
+    {
+        Row {
+            cells: array::from_fn(f),
+        }
+    }
+
+    // The digits of an element, which are fixed.
+    pub fn of_digits<K: Kind>(kind: &K, x: u8) -> Row
+        ensures { result.cells ≡ digit_row (K.meaning kind.now) x }
+    {
+        Row {
+            cells: kind.digits(x),
+        }
     }
 }
 
@@ -93,11 +113,7 @@ impl Form {
     pub fn empty() -> Form
         ensures { (m : Meaning) → InForm m result × (rows_of m result ≡ []) }
     {
-        let none = Row { cells: [0; 8] };
-        Form {
-            rows: [none; 8],
-            marks: [false; 8],
-        }
+        Form { rows: [None; 8] }
     }
 
     // Puts in one row more, if it is not among the sums of the rows with fixed coefficients: then the answer is true, and
@@ -110,11 +126,9 @@ impl Form {
         let Some(at) = leading(kind, &left) else {
             return false;
         };
-        let zero = Row { cells: [0; 8] };
-        let new = combined(kind, &zero, at.inverse, &left);
+        let new = combined(kind, &Row::ZERO, at.inverse, &left);
         sweep(kind, self, at.place, &new);
-        self.rows[at.place] = new;
-        self.marks[at.place] = true;
+        self.rows[at.place] = Some(new);
         true
     }
 }

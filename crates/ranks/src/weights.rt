@@ -12,17 +12,12 @@ pub fn weight<K: Kind>(kind: &K, lengths: &[u8], word: &[u8]) -> Option<usize>
     ensures { let m = K.meaning kind.now in let ns = lengths.now in let w = word.now in
         MatchOption result (total ns ≢ length w) (λ t. (total ns ≡ length w) × Weighs (ops m) (map (elems m) (cut ns w)) t) }
 {
-    let mut at = 0;
+    let mut rest = word;
     let mut sum = 0;
-    for i in 0..lengths.len() {
-        let n = lengths[i] as usize;
-        if n > word.len() - at {
-            return None;
-        }
-        let end = at + n;
-        let here = rank(kind, &word[at..end]);
-        sum += here;
-        at = end;
+    for n in lengths {
+        let (block, behind) = rest.split_at_checked(*n as usize)?;
+        sum += rank(kind, block);
+        rest = behind;
     }
-    if at == word.len() { Some(sum) } else { None }
+    if rest.is_empty() { Some(sum) } else { None }
 }

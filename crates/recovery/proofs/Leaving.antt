@@ -13,6 +13,7 @@ use Rattle.skew.specs.Values.{eval, eval_code}
 use Rattle.skew.specs.Products.{coef}
 use Rattle.skew.specs.Pairs.{Spot, spot, spots}
 use Rattle.ranks.specs.Ranks.{total}
+use Rattle.ranks.specs.Reduction.{marks_of}
 use Rattle.ranks.specs.declared.rows.Form.{Form}
 use Rattle.hints.specs.declared.block.BlockHints.{BlockHints}
 use Rattle.hints.specs.Holdings.{no_block}
@@ -75,7 +76,7 @@ first_own m (suc n) (q ∷ qs) h = refl
 block_own : (m : Meaning) (k : List (Elem m)) (b : BlockHints) (n : ℕ) (qs : List Point) (zs : List ℕ) → 1 ≤ n → block_spots m b.columns n k (take n qs) (take n zs) ≡ block_spots m b.columns n k qs zs
 block_own m k b n qs zs h =
     let row : List (Elem m) → List (Elem m) = λ v. take n (cleared_row m b.columns v) in
-    let marks = b.columns.marks in
+    let marks = (marks_of b.columns) in
     ap (λ w. left_spots m w k marks (row (elems m (locators_of (take n (take n qs))))) (row (elems m (take n (take n zs))))) (first_own m n qs h)
     ∙ ap (λ w. left_spots m (parameter_of m qs) k marks (row (elems m (locators_of w))) (row (elems m (take n (take n zs))))) (take_own n qs)
     ∙ ap (λ w. left_spots m (parameter_of m qs) k marks (row (elems m (locators_of (take n qs)))) (row (elems m w))) (take_own n zs)
@@ -92,11 +93,11 @@ site_here m ps k us vs n {p} {s} h e =
 -- The places of one block, by the rows that were cleared.
 pub block_spots_here : (m : Meaning) (f : Form) (k : List (Elem m)) (ps : List Point) (ys : List ℕ) (us vs : List (Elem m)) → length ys ≡ length ps
     → us ≡ cleared_row m f (elems m (locators_of ps)) → vs ≡ cleared_row m f (elems m ys)
-    → left_spots m (parameter_of m ps) k f.marks (take (length ps) us) (take (length ps) vs) ≡ block_spots m f (length ps) k ps ys
+    → left_spots m (parameter_of m ps) k (marks_of f) (take (length ps) us) (take (length ps) vs) ≡ block_spots m f (length ps) k ps ys
 block_spots_here m f k ps ys us vs e eu ev =
     let n = length ps in
-    ap (λ w. left_spots m (parameter_of m ps) k f.marks (take n w) (take n vs)) (eu ∙ ap (λ w. cleared_row m f (elems m (locators_of w))) (sym (take_all n ps (omega arith))))
-    ∙ ap (λ w. left_spots m (parameter_of m ps) k f.marks (take n (cleared_row m f (elems m (locators_of (take n ps))))) (take n w)) (ev ∙ ap (λ w. cleared_row m f (elems m w)) (sym (take_all n ys (omega (arith, e)))))
+    ap (λ w. left_spots m (parameter_of m ps) k (marks_of f) (take n w) (take n vs)) (eu ∙ ap (λ w. cleared_row m f (elems m (locators_of w))) (sym (take_all n ps (omega arith))))
+    ∙ ap (λ w. left_spots m (parameter_of m ps) k (marks_of f) (take n (cleared_row m f (elems m (locators_of (take n ps))))) (take n w)) (ev ∙ ap (λ w. cleared_row m f (elems m w)) (sym (take_all n ys (omega (arith, e)))))
 
 -- The part of the points and of the word that a block has.
 pub own_part : (m : Meaning) (b : BlockHints) (k : List (Elem m)) (at n : ℕ) {slice ps : List Point} (ys : List ℕ) (out out' : List Site) → slice ≡ ps → at + n ≤ length ps

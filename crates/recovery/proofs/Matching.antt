@@ -17,7 +17,7 @@ use Rattle.skew.proofs.Values.{eval_value}
 use Rattle.skew.proofs.Everywhere.{all_left, all_right}
 use Rattle.skew.proofs.Sums.{cons_path}
 use Rattle.ranks.specs.Ranks.{total, cut}
-use Rattle.ranks.specs.Reduction.{rows_of, Reduced}
+use Rattle.ranks.specs.Reduction.{marks_of, rows_of, Reduced}
 use Rattle.ranks.specs.RowSteps.{clear}
 use Rattle.ranks.proofs.Inserting
 use Rattle.codes.specs.Codes.{block_size}
@@ -55,23 +55,23 @@ module _ {m : Meaning} (l : Laws m) where
   module _ (n : ℕ) (b : BlockHints) (g : Given (Elem m)) (le : n ≤ 8) (held : BlockHolds m n b g) where
     -- What is left of a row of the block has n places.
     length_left : (v : List (Elem m)) → length v ≡ n → length (take n (cleared_row m b.columns v)) ≡ n
-    length_left v e = sym (ap length (Reading.narrow_clear l le held v e).0) ∙ Inserting.length_clear laws (take n b.columns.marks) (map (take n) (rows_of m b.columns)) v ∙ e
+    length_left v e = sym (ap length (Reading.narrow_clear l le held v e).0) ∙ Inserting.length_clear laws (take n (marks_of b.columns)) (map (take n) (rows_of m b.columns)) v ∙ e
 
     -- The spots of one block.
     block_spots_are : (f : List (Elem m)) (a : Elem m) (locs : List (Elem m)) (ps : List Point) (ys : List ℕ) → 1 ≤ n → length locs ≡ n → n ≤ length ys
         → parameter_of m ps ≡ a → elems m (locators_of (take n ps)) ≡ locs
-        → points_at (ops m) a f (omit (take n b.columns.marks) (clear (ops m) (take n b.columns.marks) (map (take n) (rows_of m b.columns)) locs))
-        (omit (take n b.columns.marks) (clear (ops m) (take n b.columns.marks) (map (take n) (rows_of m b.columns)) (take n (elems m ys))))
+        → points_at (ops m) a f (omit (take n (marks_of b.columns)) (clear (ops m) (take n (marks_of b.columns)) (map (take n) (rows_of m b.columns)) locs))
+        (omit (take n (marks_of b.columns)) (clear (ops m) (take n (marks_of b.columns)) (map (take n) (rows_of m b.columns)) (take n (elems m ys))))
         ≡ block_spots m b.columns n f ps ys
     block_spots_are f a locs ps ys some el hy ea eb =
         let syms : List (Elem m) = elems m (take n ys) in
         let long : length (elems m (take n ys)) ≡ n = length-map (take n ys) (elem m) ∙ length-take-le n ys hy in
-        ap (λ w. points_at (ops m) a f (omit (take n b.columns.marks) w) (omit (take n b.columns.marks) (clear (ops m) (take n b.columns.marks) (map (take n) (rows_of m b.columns)) (take n (elems m ys))))) (Reading.narrow_clear l le held locs el).0
-        ∙ ap (λ w. points_at (ops m) a f (omit (take n b.columns.marks) (take n (cleared_row m b.columns locs))) (omit (take n b.columns.marks) w))
-        (ap (clear (ops m) (take n b.columns.marks) (map (take n) (rows_of m b.columns))) (take-map (elem m) n ys) ∙ (Reading.narrow_clear l le held syms long).0)
-        ∙ spots_omit a f n b.columns.marks (take n (cleared_row m b.columns locs)) (take n (cleared_row m b.columns syms)) (length_left locs el) (length_left syms long) (omega (arith, held.columns.form.reduced.size))
-        ∙ ap (λ w. left_spots m w f b.columns.marks (take n (cleared_row m b.columns locs)) (take n (cleared_row m b.columns syms))) (sym ea)
-        ∙ ap (λ w. left_spots m (parameter_of m ps) f b.columns.marks (take n (cleared_row m b.columns w)) (take n (cleared_row m b.columns syms))) (sym eb)
+        ap (λ w. points_at (ops m) a f (omit (take n (marks_of b.columns)) w) (omit (take n (marks_of b.columns)) (clear (ops m) (take n (marks_of b.columns)) (map (take n) (rows_of m b.columns)) (take n (elems m ys))))) (Reading.narrow_clear l le held locs el).0
+        ∙ ap (λ w. points_at (ops m) a f (omit (take n (marks_of b.columns)) (take n (cleared_row m b.columns locs))) (omit (take n (marks_of b.columns)) w))
+        (ap (clear (ops m) (take n (marks_of b.columns)) (map (take n) (rows_of m b.columns))) (take-map (elem m) n ys) ∙ (Reading.narrow_clear l le held syms long).0)
+        ∙ spots_omit a f n (marks_of b.columns) (take n (cleared_row m b.columns locs)) (take n (cleared_row m b.columns syms)) (length_left locs el) (length_left syms long) (omega (arith, held.columns.form.reduced.size))
+        ∙ ap (λ w. left_spots m w f (marks_of b.columns) (take n (cleared_row m b.columns locs)) (take n (cleared_row m b.columns syms))) (sym ea)
+        ∙ ap (λ w. left_spots m (parameter_of m ps) f (marks_of b.columns) (take n (cleared_row m b.columns w)) (take n (cleared_row m b.columns syms))) (sym eb)
 
   -- The spots of all blocks.
   pub spots_are : (f : List (Elem m)) (blocks : List (Block (Elem m))) (ns : List ℕ) (bs : List BlockHints) (gs : List (Given (Elem m))) (ps : List Point) (ys : List ℕ)
@@ -105,7 +105,7 @@ module _ {m : Meaning} (l : Laws m) where
       let size : length locs ≡ n = ap (λ js. get_or js 0 0) e in
       let mine = held 0 (omega arith) in (
         record {
-          form = subst (λ j. Reduced (ops m) j (take n b.columns.marks) (map (take n) (rows_of m b.columns))) (sym size) (Reading.block_leads l mine.1 mine.2).reduced;
+          form = subst (λ j. Reduced (ops m) j (take n (marks_of b.columns)) (map (take n) (rows_of m b.columns))) (sym size) (Reading.block_leads l mine.1 mine.2).reduced;
           size = length-take-le n w (omega arith) ∙ sym size;
         },
         reduced_are blocks ns bs gs (drop n w) (ap (drop 1) e) (omega (arith, length-drop n w)) (omega arith) (omega arith) (λ i k. held (suc i) (omega (arith, k))),

@@ -15,6 +15,7 @@ use Rattle.skew.specs.Roots.{Block, block, points}
 use Rattle.skew.specs.Annihilators.{places}
 use Rattle.skew.proofs.Sums.{cons_path}
 use Rattle.ranks.specs.Ranks.{total, cut}
+use Rattle.ranks.specs.Reduction.{marks_of}
 use Rattle.codes.specs.Codes.{block_size}
 use Rattle.hints.specs.Splittings.{Given}
 use Rattle.hints.specs.declared.block.BlockHints.{BlockHints}
@@ -36,7 +37,7 @@ all_shown m (n ∷ ns) (b ∷ bs) = shown m n b ∷ all_shown m ns bs
 abbrev pub all_marks : List ℕ → List BlockHints → List (List Bool)
 all_marks [] bs = []
 all_marks (n ∷ ns) [] = []
-all_marks (n ∷ ns) (b ∷ bs) = take n b.columns.marks ∷ all_marks ns bs
+all_marks (n ∷ ns) (b ∷ bs) = take n (marks_of b.columns) ∷ all_marks ns bs
 
 -- As many as there are blocks.
 pub length_shown : (m : Meaning) (ns : List ℕ) (bs : List BlockHints) → length ns ≤ length bs → length (all_shown m ns bs) ≡ length ns

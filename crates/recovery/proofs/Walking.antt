@@ -4,7 +4,7 @@
 --   Collecting m ns bs ps i at out     the hints of the blocks before block i are in out
 --   Leaving m f a k us vs start p out  the places before place p of one block that are left are behind start
 --   Gathering m ns bs k ps ys i at out the places of the blocks before block i that are left are in out
-use Rattle.std.proofs.Common.{◌≡◌, ℕ, ◌+◌, ◌<◌, ◌≤◌, true, false, List, [], ◌∷◌, ◌++◌, map, length, get_or, take, drop, sym, ap, ◌∙◌, append_assoc, append-nil, arith}
+use Rattle.std.proofs.Common.{◌≡◌, ℕ, ◌+◌, ◌<◌, ◌≤◌, List, [], ◌∷◌, ◌++◌, map, length, get_or, take, drop, Some, None, sym, ap, ◌∙◌, append_assoc, append-nil, arith}
 use Rattle.std.proofs.lemmas.List.{length-map}
 use Rattle.std.proofs.lemmas.List.{drop_more, drop_all, drop-drop, take_all, take-map, map-append}
 use Rattle.fields.specs.Meaning.{Meaning}
@@ -12,8 +12,8 @@ use Rattle.fields.specs.Elements.{Elem, elem}
 use Rattle.skew.specs.declared.points.Point.{Point}
 use Rattle.skew.specs.Annihilators.{place, places}
 use Rattle.skew.proofs.Filling.{take_cut}
-use Rattle.ranks.specs.Ranks.{pick, total}
-use Rattle.ranks.specs.Reduction.{row, rows_of, InForm}
+use Rattle.ranks.specs.Ranks.{total}
+use Rattle.ranks.specs.Reduction.{row, in_use, rows_of, InForm}
 use Rattle.ranks.specs.declared.rows.Form.{Form}
 use Rattle.ranks.specs.declared.rows.Row.{Row}
 use Rattle.codes.specs.declared.shape.Code.{Code}
@@ -40,36 +40,26 @@ module _ {A B : Type 0} (g : A → B) where
   no_more xs h = ap (take 24) (append-nil (map g xs)) ∙ take_all 24 (map g xs) (omega (arith, length-map xs g))
 
 pub record Pointing (m : Meaning) (f : Form) (a : ℕ) (start : List Point) (p : ℕ) (out : List Point) : Type 0 where
-  pub is : InForm m f → take 24 (places m out ++ hint_points m (elem m a) (pick (drop p f.marks) (map (row m) (drop p f.rows))))
-      ≡ take 24 (places m start ++ hint_points m (elem m a) (rows_of m f))
-
--- The rows at a place.
-rows_here : (m : Meaning) (f : Form) {p : ℕ} (d : Row) → p < 8 → InForm m f
-    → pick (drop p f.marks) (map (row m) (drop p f.rows)) ≡ pick (get_or f.marks p false ∷ drop (p + 1) f.marks) (row m (get_or f.rows p d) ∷ map (row m) (drop (p + 1) f.rows))
-rows_here m f {p} d h k =
-    ap (λ w. pick w (map (row m) (drop p f.rows))) (drop_more f.marks p false (omega (arith, k.reduced.size)))
-    ∙ ap (λ w. pick (get_or f.marks p false ∷ drop (p + 1) f.marks) (map (row m) w)) (drop_more f.rows p d (omega (arith, k.room)))
+  pub is : InForm m f → take 24 (places m out ++ hint_points m (elem m a) (map (row m) (in_use (drop p f.rows)))) ≡ take 24 (places m start ++ hint_points m (elem m a) (rows_of m f))
 
 module _ (m : Meaning) {f : Form} {a : ℕ} {start : List Point} where
   -- A place without a row.
-  pub pointing_skips : {p : ℕ} {out : List Point} (d : Row) → p < 8 → get_or f.marks p false ≡ false → Pointing m f a start p out → Pointing m f a start (p + 1) out
-  pointing_skips {p} {out} d h e s = record {
+  pub pointing_skips : {p : ℕ} {out : List Point} → p < 8 → get_or f.rows p None ≡ None → Pointing m f a start p out → Pointing m f a start (p + 1) out
+  pointing_skips {p} {out} h e s = record {
     is = λ k.
-        ap (λ w. take 24 (places m out ++ hint_points m (elem m a) w))
-        (sym (rows_here m f d h k ∙ ap (λ b. pick (b ∷ drop (p + 1) f.marks) (row m (get_or f.rows p d) ∷ map (row m) (drop (p + 1) f.rows))) e))
+        ap (λ w. take 24 (places m out ++ hint_points m (elem m a) (map (row m) (in_use w)))) (sym (drop_more f.rows p None (omega (arith, k.room)) ∙ ap (λ x. x ∷ drop (p + 1) f.rows) e))
         ∙ s.is k;
   }
 
   -- A place with a row.
-  pub pointing_goes_on : {p : ℕ} (u : ℕ) {out out' : List Point} (d : Row) → p < 8 → get_or f.marks p false ≡ true → elem m u ≡ from_digits m (row m (get_or f.rows p d))
+  pub pointing_goes_on : {p : ℕ} (u : ℕ) {out out' : List Point} (r : Row) → p < 8 → get_or f.rows p None ≡ Some r → elem m u ≡ from_digits m (row m r)
       → out' ≡ take 24 (out ++ record { parameter = a; locator = u } ∷ []) → Pointing m f a start p out → Pointing m f a start (p + 1) out'
-  pointing_goes_on {p} u {out} {out'} d h e eu eo s = record {
+  pointing_goes_on {p} u {out} {out'} r h e eu eo s = record {
     is = λ k.
-        let rest : List (List (Elem m)) = pick (drop (p + 1) f.marks) (map (row m) (drop (p + 1) f.rows)) in
+        let rest : List (List (Elem m)) = map (row m) (in_use (drop (p + 1) f.rows)) in
         one_more (place m) out (record { parameter = a; locator = u }) (hint_points m (elem m a) rest) eo
         ∙ ap (λ w. take 24 (places m out ++ (elem m a, w) ∷ hint_points m (elem m a) rest)) eu
-        ∙ ap (λ w. take 24 (places m out ++ hint_points m (elem m a) w))
-        (sym (rows_here m f d h k ∙ ap (λ b. pick (b ∷ drop (p + 1) f.marks) (row m (get_or f.rows p d) ∷ map (row m) (drop (p + 1) f.rows))) e))
+        ∙ ap (λ w. take 24 (places m out ++ hint_points m (elem m a) (map (row m) (in_use w)))) (sym (drop_more f.rows p None (omega (arith, k.room)) ∙ ap (λ x. x ∷ drop (p + 1) f.rows) e))
         ∙ s.is k;
   }
 
@@ -77,7 +67,7 @@ module _ (m : Meaning) {f : Form} {a : ℕ} {start : List Point} where
   pub pointing_ends : {p : ℕ} {out : List Point} → 8 ≤ p → length out ≤ 24 → Pointing m f a start p out
       → InForm m f → places m out ≡ take 24 (places m start ++ hint_points m (elem m a) (rows_of m f))
   pointing_ends {p} {out} h few s k =
-      sym (no_more (place m) out few) ∙ ap (λ w. take 24 (places m out ++ hint_points m (elem m a) (pick w (map (row m) (drop p f.rows))))) (sym (drop_all p f.marks (omega (arith, k.reduced.size)))) ∙ s.is k
+      sym (no_more (place m) out few) ∙ ap (λ w. take 24 (places m out ++ hint_points m (elem m a) (map (row m) (in_use w)))) (sym (drop_all p f.rows (omega (arith, k.room)))) ∙ s.is k
 
 -- The row hints of the first blocks are reduced.
 abbrev pub Forms : Meaning → (BlockHints → Form) → List ℕ → List BlockHints → Type 0

@@ -13,7 +13,7 @@ use Rattle.fields.specs.Elements.{Elem, elem, elems, ops}
 use Rattle.skew.specs.declared.points.Point.{Point}
 use Rattle.skew.specs.Values.{eval}
 use Rattle.skew.specs.Pairs.{Spot}
-use Rattle.ranks.specs.Reduction.{rows_of}
+use Rattle.ranks.specs.Reduction.{marks_of, rows_of}
 use Rattle.ranks.specs.RowSteps.{clear}
 use Rattle.ranks.specs.declared.rows.Form.{Form}
 use Rattle.hints.specs.declared.block.BlockHints.{BlockHints}
@@ -47,11 +47,11 @@ module _ (m : Meaning) where
   left_spots a f (false ∷ marks) (u ∷ us) (v ∷ vs) = record { parameter = a; locator = u; second = eval (ops m) a f v } ∷ left_spots a f marks us vs
 
   abbrev pub cleared_row : Form → List (Elem m) → List (Elem m)
-  cleared_row f h = clear (ops m) f.marks (rows_of m f) (padded m h)
+  cleared_row f h = clear (ops m) (marks_of f) (rows_of m f) (padded m h)
 
   abbrev pub block_spots : Form → ℕ → List (Elem m) → List Point → List ℕ → List (Spot (Elem m))
   block_spots f n p ps ys =
-      left_spots (parameter_of ps) p f.marks (take n (cleared_row f (elems m (locators_of (take n ps))))) (take n (cleared_row f (elems m (take n ys))))
+      left_spots (parameter_of ps) p (marks_of f) (take n (cleared_row f (elems m (locators_of (take n ps))))) (take n (cleared_row f (elems m (take n ys))))
 
   abbrev pub all_spots : List ℕ → List BlockHints → List (Elem m) → List Point → List ℕ → List (Spot (Elem m))
   all_spots [] bs p ps ys = []

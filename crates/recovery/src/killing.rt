@@ -18,10 +18,9 @@ fn add_points<K: Kind>(kind: &K, form: &Form, parameter: u8, out: &mut Course)
     ensures { let m = K.meaning kind.now in let f = form.now in
         (InForm m f → places m (stops out.new) ≡ take 24 (places m (stops out.old) ++ hint_points m (elem m parameter) (rows_of m f))) }
 {
-    for p in 0..8usize {
-        if form.marks[p] {
-            let row = form.rows[p];
-            let locator = element_of(kind, &row);
+    for slot in &form.rows {
+        if let Some(row) = slot {
+            let locator = element_of(kind, row);
             out.push(Point { parameter, locator });
         }
     }

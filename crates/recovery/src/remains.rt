@@ -22,11 +22,7 @@ fn locator_row(points: &[Point]) -> Row
     requires { length points.now ≤ 8 }
     ensures { (m : Meaning) → row_of m result ≡ padded m (elems m (locators_of points.now)) }
 {
-    let mut cells = [0; 8];
-    for i in 0..points.len() {
-        cells[i] = points[i].locator;
-    }
-    Row { cells }
+    Row::from_fn(|i| points.get(i).map_or(0, |p| p.locator))
 }
 
 // The places of one block that are left, behind those that are there, as far as there is room: locator and symbol less what the
@@ -52,7 +48,7 @@ fn add_sites<K: Kind>(
     let received = row_of(symbols);
     let left = cleared(kind, columns, &received);
     for p in 0..points.len() {
-        if !columns.marks[p] {
+        if columns.rows[p].is_none() {
             let second = value(kind, killer.as_slice(), parameter, left.cells[p]);
             out.push(Site {
                 parameter,

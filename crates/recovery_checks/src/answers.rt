@@ -1,19 +1,15 @@
 // What is printed of one case.
 use codes::Code;
 use fields::Kind;
-use hints::{Hints, Verdict};
+use hints::{Hints, NotTaken};
 use ranks::weight;
 use recovery::{Recovery, prepare, recover, recover_by};
 use std::io;
 
-pub fn verdict(rt: &HostRuntime, sort: &str, v: Verdict) -> io::Result<()> {
-    match v {
-        Verdict::Taken => print!(rt; "{sort} taken; "),
-        Verdict::NoBlock => print!(rt; "{sort} no block; "),
-        Verdict::WrongLength => print!(rt; "{sort} wrong length; "),
-        Verdict::NoCode(i) => print!(rt; "{sort} no code {i}; "),
-        Verdict::Dependent => print!(rt; "{sort} dependent; "),
-        Verdict::Spent => print!(rt; "{sort} spent; "),
+pub fn verdict(rt: &HostRuntime, sort: &str, taken: Result<(), NotTaken>) -> io::Result<()> {
+    match taken {
+        Ok(()) => print!(rt; "{sort} taken; "),
+        Err(reason) => print!(rt; "{sort} {reason}; "),
     }
 }
 

@@ -1,7 +1,7 @@
 // A damaged word, the hints on it, and what is recovered.
 use codes::Code;
 use fields::Kind;
-use hints::{Hints, Verdict};
+use hints::Hints;
 use recovery::recover;
 use std::io;
 
@@ -26,8 +26,8 @@ pub fn rescue<K: Kind>(
     let mut hints = Hints::none();
     for b in blocks {
         match hints.add_column(kind, code, *b as usize, &[1]) {
-            Verdict::Taken => println!(rt; "  block {b} is given up")?,
-            _ => println!(rt; "  block {b}: the hint is not taken")?,
+            Ok(()) => println!(rt; "  block {b} is given up")?,
+            Err(_) => println!(rt; "  block {b}: the hint is not taken")?,
         }
     }
     let Some(r) = recover(kind, code, &hints, word) else {

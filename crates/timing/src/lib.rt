@@ -25,7 +25,7 @@ fn add_rows<'a, K: Kind>(kind: &K, code: &Code, hints: &mut Hints, bytes: &'a [u
         let [block, element, tail @ ..] = rest else {
             return rest;
         };
-        let _verdict = hints.add_row(kind, code, *block as usize, *element);
+        let _taken = hints.add_row(kind, code, *block as usize, *element);
         rest = tail;
     }
     rest
@@ -42,7 +42,7 @@ fn add_columns<K: Kind>(kind: &K, code: &Code, hints: &mut Hints, bytes: &[u8]) 
             return;
         };
         let (row, others) = split(tail, *size as usize);
-        let _verdict = hints.add_column(kind, code, *block as usize, row);
+        let _taken = hints.add_column(kind, code, *block as usize, row);
         rest = others;
     }
 }

@@ -9,7 +9,7 @@ loop-x-init g c = counting_starts (g.met.K.Kind.lawful c.args.kind.now) (c.empty
 pub loop-x-preserved : goal.loop-x-preserved
 loop-x-preserved g c =
     let l = g.met.K.Kind.lawful c.args.kind.now in
-    let k = counting_more l c.args.symbols.now c.insert-more.new.self c.insert-more.result c.digits-digits.result c.loop-x-test.true c.loop-x.invariant c.digits-digits.ensures c.insert-more.ensures in
+    let k = counting_more l c.args.symbols.now c.insert-more.new.self c.insert-more.result c.of_digits.result.cells c.loop-x-test.true c.loop-x.invariant c.of_digits.ensures c.insert-more.ensures in
     let xs = take (c.loop-x.x-index + 1) c.args.symbols.now in
     elim c.if-more.branch [
       | then-more w ↦ subst (Counting l xs c.insert-more.new.self) (sym w.count-is) (k.0 w.if-more.true)

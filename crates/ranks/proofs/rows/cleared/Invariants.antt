@@ -1,5 +1,6 @@
+use Rattle.std.proofs.Common.{length}
 use Rattle.ranks.proofs.Reducing.{ClearedTo}
 use Rattle.ranks.proofs.rows.cleared.Given as goal
 
-abbrev pub invariant-loop-p : goal.invariant-loop-p
-invariant-loop-p g l = ClearedTo (g.met.K.Kind.lawful l.kind) l.form l.row l.left l.p
+abbrev pub invariant-loop-slot : goal.invariant-loop-slot
+invariant-loop-slot g l = ClearedTo (g.met.K.Kind.lawful l.kind) l.form l.row l.left (length l.yielded)

@@ -1,5 +1,5 @@
 use Rattle.ranks.proofs.Reducing.{Seeking}
 use Rattle.ranks.proofs.rows.leading.Given as goal
 
-abbrev pub invariant-loop-i : goal.invariant-loop-i
-invariant-loop-i g l = Seeking (g.K.Kind.meaning l.kind) l.row.cells l.i
+abbrev pub invariant-loop-place : goal.invariant-loop-place
+invariant-loop-place g l = Seeking (g.K.Kind.meaning l.kind) l.row.cells l.place

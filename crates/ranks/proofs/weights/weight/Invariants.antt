@@ -1,5 +1,5 @@
 use Rattle.ranks.proofs.Weighing.{Weighing}
 use Rattle.ranks.proofs.weights.weight.Given as goal
 
-abbrev pub invariant-loop-i : goal.invariant-loop-i
-invariant-loop-i g l = Weighing (g.K.Kind.meaning l.kind) l.lengths l.word l.i l.at l.sum
+abbrev pub invariant-loop-n : goal.invariant-loop-n
+invariant-loop-n g l = Weighing (g.K.Kind.meaning l.kind) l.lengths l.word l.n-index l.rest l.sum

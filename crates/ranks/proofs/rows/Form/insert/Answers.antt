@@ -9,4 +9,4 @@ returns-in_default g c =
 pub returns : goal.returns
 returns g c =
     λ k r. inserted_one (g.met.K.Kind.lawful c.args.kind.now) c.args.self.now _ c.args.row.now.cells c.cleared-left.result.cells c.combined-new.result.cells
-    c.sweep.new.form c.combined-new.result (c.cleared-left.ensures k) c.in-Some.ensures refl c.combined-new.ensures c.sweep.ensures refl refl k r
+    c.sweep.new.form c.combined-new.result (c.cleared-left.ensures k) c.in-Some.ensures refl c.combined-new.ensures c.sweep.ensures refl k r
