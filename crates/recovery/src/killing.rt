@@ -35,10 +35,9 @@ pub fn row_points<K: Kind>(kind: &K, code: &Code, hints: &Hints) -> Course
     let lengths = code.lengths.as_slice();
     let mut out = Course::empty();
     let mut at = 0;
-    for i in 0..lengths.len() {
-        let block = hints.blocks[i];
+    for (n, block) in lengths.iter().zip(&hints.blocks) {
         add_points(kind, &block.rows, points[at].parameter, &mut out);
-        at += lengths[i] as usize;
+        at += usize::from(*n);
     }
     out
 }

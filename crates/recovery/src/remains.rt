@@ -76,9 +76,8 @@ pub fn left_sites<K: Kind>(
     let lengths = code.lengths.as_slice();
     let mut out = Spots::empty();
     let mut at = 0;
-    for i in 0..lengths.len() {
-        let end = at + lengths[i] as usize;
-        let block = hints.blocks[i];
+    for (n, block) in lengths.iter().zip(&hints.blocks) {
+        let end = at + usize::from(*n);
         add_sites(
             kind,
             &block.columns,

@@ -1,39 +1,49 @@
-use Rattle.std.proofs.Common.{◌≡◌, ◌+◌, ◌<◌, ◌≤◌, length, get_or, ap, subst, arith, length-take-le}
+use Rattle.std.proofs.Common.{◌≡◌, ◌+◌, ◌≤◌, ◌++◌, take, drop, length, get_or, sym, ap, ◌∙◌, subst, arith, rules}
+use Rattle.std.proofs.lemmas.List.{length_push}
+use Rattle.std.proofs.lemmas.Slice.Zip.{zip_turn, zip_end}
 use Rattle.fields.specs.Elements.{elems}
 use Rattle.skew.specs.Polynomials.{coefficients}
+use Rattle.skew.specs.Pairs.{spots}
+use Rattle.ranks.specs.Reduction.{InForm}
+use Rattle.recovery.specs.Steps.{block_spots}
+use Rattle.skew.proofs.Filling.{short}
 use Rattle.codes.specs.Holdings.{held, stops}
 use Rattle.recovery.specs.Sites.{sites_in}
-use Rattle.recovery.proofs.Walking.{block_within}
+use Rattle.recovery.proofs.Walking.{block_within, Forms}
 use Rattle.hints.specs.Holdings.{no_block}
 use Rattle.recovery.proofs.Leaving.{own_part, gathering_starts, gathering_goes_on, gathering_ends}
 use Rattle.recovery.proofs.remains.left_sites.Goals as goal
 
-pub loop-i-init : goal.loop-i-init
-loop-i-init g c = gathering_starts (g.K.Kind.meaning c.args.kind.now) c.empty-out.ensures
+pub loop-n-init : goal.loop-n-init
+loop-n-init g c = gathering_starts (g.K.Kind.meaning c.args.kind.now) c.empty-out.ensures
 
 pub slice_bounds-add_sites-end : goal.slice_bounds-add_sites-end
 slice_bounds-add_sites-end g c =
-    let h : c.loop-i.i < length (held c.args.code.now.lengths) = subst (λ w. c.loop-i.i < length w) c.as_slice-lengths.ensures c.loop-i-test.true in
-    let n : get_or c.as_slice-lengths.result.now c.loop-i.i 0 ≡ get_or (held c.args.code.now.lengths) c.loop-i.i 0 = ap (λ w. get_or w c.loop-i.i 0) c.as_slice-lengths.ensures in
-    omega (arith, n, ap length c.as_slice-points.ensures, (block_within c.args.code.now h c.loop-i.invariant.ends).1)
+    let t = zip_turn (held c.args.code.now.lengths) c.args.hints.now.blocks c.loop-n.yielded c.into_iter-n-iterator.result c.loop-n.n-iterator c.next.new.self _ (search rules) (search rules) c.loop-n.yielded_by (c.in-Some.n, c.in-Some.block) c.in-Some.is c.next.ensures.steps in
+    omega (arith, c.from.ensures, t.2 0, ap length c.as_slice-points.ensures, (block_within c.args.code.now t.0 c.loop-n.invariant.ends).1)
 
-pub slice_bounds-add_sites-end-in-loop-i : goal.slice_bounds-add_sites-end-in-loop-i
-slice_bounds-add_sites-end-in-loop-i g c =
-    let h : c.loop-i.i < length (held c.args.code.now.lengths) = subst (λ w. c.loop-i.i < length w) c.as_slice-lengths.ensures c.loop-i-test.true in
-    let n : get_or c.as_slice-lengths.result.now c.loop-i.i 0 ≡ get_or (held c.args.code.now.lengths) c.loop-i.i 0 = ap (λ w. get_or w c.loop-i.i 0) c.as_slice-lengths.ensures in
-    omega (arith, n, c.requires, (block_within c.args.code.now h c.loop-i.invariant.ends).1)
+pub slice_bounds-add_sites-end-in-loop-n : goal.slice_bounds-add_sites-end-in-loop-n
+slice_bounds-add_sites-end-in-loop-n g c =
+    let t = zip_turn (held c.args.code.now.lengths) c.args.hints.now.blocks c.loop-n.yielded c.into_iter-n-iterator.result c.loop-n.n-iterator c.next.new.self _ (search rules) (search rules) c.loop-n.yielded_by (c.in-Some.n, c.in-Some.block) c.in-Some.is c.next.ensures.steps in
+    omega (arith, c.from.ensures, t.2 0, c.requires, (block_within c.args.code.now t.0 c.loop-n.invariant.ends).1)
 
-pub loop-i-preserved : goal.loop-i-preserved
-loop-i-preserved g c =
+pub loop-n-preserved : goal.loop-n-preserved
+loop-n-preserved g c =
     let m = g.K.Kind.meaning c.args.kind.now in
-    let h : c.loop-i.i < length (held c.args.code.now.lengths) = subst (λ w. c.loop-i.i < length w) c.as_slice-lengths.ensures c.loop-i-test.true in
-    let n = get_or c.as_slice-lengths.result.now c.loop-i.i 0 in
-    let en : n ≡ get_or (held c.args.code.now.lengths) c.loop-i.i 0 = ap (λ w. get_or w c.loop-i.i 0) c.as_slice-lengths.ensures in
-    let within : c.loop-i.at + n ≤ length (stops c.args.code.now.course) = omega (arith, en, (block_within c.args.code.now h c.loop-i.invariant.ends).1) in
-    gathering_goes_on m h (omega (arith, h, c.args.code.now.blocks, c.args.hints.now.room)) en (omega (arith, en, (c.args.code.now.each c.loop-i.i h).0))
-    (λ f. own_part m (get_or c.args.hints.now.blocks c.loop-i.i no_block) (elems m (coefficients c.args.killer.now)) c.loop-i.at n c.args.word.now (sites_in c.loop-i.out) (sites_in c.add_sites.new.out) c.as_slice-points.ensures within (c.add_sites.ensures (f c.loop-i.i h))) c.loop-i.invariant
+    let t = zip_turn (held c.args.code.now.lengths) c.args.hints.now.blocks c.loop-n.yielded c.into_iter-n-iterator.result c.loop-n.n-iterator c.next.new.self _ (search rules) (search rules) c.loop-n.yielded_by (c.in-Some.n, c.in-Some.block) c.in-Some.is c.next.ensures.steps in
+    let i = length c.loop-n.yielded in
+    let n = c.from.result in
+    let en : n ≡ get_or (held c.args.code.now.lengths) i 0 = c.from.ensures ∙ t.2 0 in
+    let within : c.loop-n.at + n ≤ length (stops c.args.code.now.course) = omega (arith, en, (block_within c.args.code.now t.0 c.loop-n.invariant.ends).1) in
+    let k = elems m (coefficients c.args.killer.now) in
+    let own = λ (f : Forms m (λ b. b.columns) (held c.args.code.now.lengths) c.args.hints.now.blocks).
+    subst (λ b. spots m (sites_in c.add_sites.new.out) ≡ take 24 (spots m (sites_in c.loop-n.out) ++ block_spots m b.columns n k (take n (drop c.loop-n.at (stops c.args.code.now.course))) (take n (drop c.loop-n.at c.args.word.now)))) (t.3 no_block)
+    (own_part m c.in-Some.block.now k c.loop-n.at n c.args.word.now (sites_in c.loop-n.out) (sites_in c.add_sites.new.out) c.as_slice-points.ensures within
+    (c.add_sites.ensures (subst (λ b. InForm m b.columns) (sym (t.3 no_block)) (f i t.0)))) in
+    rw (length_push c.loop-n.yielded (c.in-Some.n, c.in-Some.block))
+    (gathering_goes_on m t.0 t.1 en (omega (arith, en, (c.args.code.now.each i t.0).0)) own c.loop-n.invariant)
 
 pub returns : goal.returns
 returns g c =
-    gathering_ends (g.K.Kind.meaning c.args.kind.now) (subst (λ w. length w ≤ c.loop-i.i) c.as_slice-lengths.ensures c.loop-i-test.false)
-    (omega (arith, c.loop-i.out.fits, c.loop-i.out.whole, length-take-le c.loop-i.out.len c.loop-i.out.cells (omega (arith, c.loop-i.out.fits, c.loop-i.out.whole)))) c.loop-i.invariant
+    let n = zip_end (held c.args.code.now.lengths) c.args.hints.now.blocks c.loop-n.yielded c.into_iter-n-iterator.result c.loop-n.n-iterator c.next.new.self _ (search rules) (search rules) c.loop-n.yielded_by c.in-None.is c.next.ensures.steps in
+    gathering_ends (g.K.Kind.meaning c.args.kind.now) (omega (arith, n, c.args.code.now.blocks, c.args.hints.now.room)) (short c.loop-n.out) c.loop-n.invariant

@@ -1,3 +1,4 @@
+use Rattle.std.proofs.Common.{length}
 use Rattle.fields.specs.Elements.{elems}
 use Rattle.skew.specs.Polynomials.{coefficients}
 use Rattle.codes.specs.Holdings.{held, stops}
@@ -5,7 +6,7 @@ use Rattle.recovery.specs.Sites.{sites_in}
 use Rattle.recovery.proofs.Leaving.{Gathering}
 use Rattle.recovery.proofs.remains.left_sites.Given as goal
 
-abbrev pub invariant-loop-i : goal.invariant-loop-i
-invariant-loop-i g l =
+abbrev pub invariant-loop-n : goal.invariant-loop-n
+invariant-loop-n g l =
     let m = g.K.Kind.meaning l.kind in
-    Gathering m (held l.code.lengths) l.hints.blocks (elems m (coefficients l.killer)) (stops l.code.course) l.word l.i l.at (sites_in l.out)
+    Gathering m (held l.code.lengths) l.hints.blocks (elems m (coefficients l.killer)) (stops l.code.course) l.word (length l.yielded) l.at (sites_in l.out)
