@@ -1,4 +1,5 @@
-// Polynomials that are changed in place.
+// Polynomials that are changed in place. These loops count an index: of what is written through a part of an array whose length is a
+// parameter a proof learns nothing (tried with iter_mut), and sums reach past the end of the shorter list.
 ghost use Rattle.std.specs.Prelude.{◌≡◌, take};
 ghost use Rattle.fields.specs.Elements.{codes};
 ghost use Rattle.skew.specs.Few.{held};

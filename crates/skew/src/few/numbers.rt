@@ -25,7 +25,7 @@ impl<const N: usize> Few<u8, N> {
         if i < self.len { self.cells[i] } else { 0 }
     }
 
-    // The first n numbers, with zeros behind where there are fewer, as far as they fit.
+    // The first n numbers, with zeros behind where there are fewer, as far as they fit. By index, since past the end 0 is read.
     pub fn resized(&self, n: usize) -> Self
         ensures { Resized N (held self.now) n (held result) }
     {
