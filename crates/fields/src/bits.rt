@@ -8,7 +8,7 @@ ghost use Rattle.fields.specs.ShippedLaws.{gf256_laws};
 
 use super::Kind;
 
-#[derive(Clone, Copy)]
+#[derive(Clone, Copy, Debug, Default, PartialEq, Eq)]
 pub struct Gf256;
 
 // What additive maps make of the bits 1, 2, 4 and so on: the fourth power, the 64th, and the four digits.

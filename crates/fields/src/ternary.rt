@@ -1,25 +1,17 @@
 // Kind 3: polynomials over the integers modulo 3, modulo z^4 + z + 2, worked on by their coefficients. A code has them as its
 // digits in base 3, the constant lowest.
 ghost use Rattle.std.specs.Prelude.{◌≡◌, ℕ, ◌<◌, ◌≤◌};
-ghost use Rattle.fields.specs.Meaning.{clip};
 ghost use Rattle.fields.specs.Residues.{coefficients, product, power};
 ghost use Rattle.fields.specs.Residues as residues;
 ghost use Rattle.fields.specs.Shipped.{modulus81, gf81};
 ghost use Rattle.fields.specs.Ternary.{trits};
 ghost use Rattle.fields.specs.ShippedLaws.{gf81_laws};
 
-use super::Kind;
 use super::trits::Trits;
+use super::{Kind, clipped};
 
-#[derive(Clone, Copy)]
+#[derive(Clone, Copy, Debug, Default, PartialEq, Eq)]
 pub struct Gf81;
-
-fn clip81(a: u8) -> u8
-    ensures value { result ≡ clip gf81 a }
-    ensures below { result < 81 }
-{
-    if a < 81 { a } else { 0 }
-}
 
 // The coefficients of a, and the code that has them.
 fn split(a: u8) -> Trits
@@ -142,28 +134,28 @@ impl Kind for Gf81 {
     }
 
     fn sum(&self, a: u8, b: u8) -> u8 {
-        joined(plus(split(clip81(a)), split(clip81(b))))
+        joined(plus(split(clipped::<81>(a)), split(clipped::<81>(b))))
     }
 
     fn opposite(&self, a: u8) -> u8 {
-        joined(scale(2, split(clip81(a))))
+        joined(scale(2, split(clipped::<81>(a))))
     }
 
     fn product(&self, a: u8, b: u8) -> u8 {
-        multiplied(clip81(a), clip81(b))
+        multiplied(clipped::<81>(a), clipped::<81>(b))
     }
 
     fn inverse(&self, a: u8) -> Option<u8> {
-        let x = clip81(a);
+        let x = clipped::<81>(a);
         if x == 0 { None } else { Some(reciprocal(x)) }
     }
 
     fn twist(&self, a: u8) -> u8 {
-        cube(clip81(a))
+        cube(clipped::<81>(a))
     }
 
     fn untwist(&self, a: u8) -> u8 {
-        cube(cube(cube(clip81(a))))
+        cube(cube(cube(clipped::<81>(a))))
     }
 
     fn width(&self) -> usize {
@@ -181,7 +173,7 @@ impl Kind for Gf81 {
     }
 
     fn digits(&self, a: u8) -> [u8; 8] {
-        let f = split(clip81(a));
+        let f = split(clipped::<81>(a));
         [f.c0, f.c1, f.c2, f.c3, 0, 0, 0, 0]
     }
 }
