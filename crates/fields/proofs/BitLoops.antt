@@ -51,16 +51,3 @@ times_ends {a} {b} {i} {s} {x} {y} h w =
 -- After i images the sum and what the other bits choose make the whole.
 pub record Mapping (images : List ℕ) (a i sum y : ℕ) : Type 0 where
   pub whole : bit_xor sum (spread (drop i images) y) ≡ spread images a
-
-pub mapped_starts : (images : List ℕ) (a : ℕ) → Mapping images a 0 0 a
-mapped_starts images a = record { whole = xor_zero_l (spread images a) }
-
-pub mapped_goes_on : {images : List ℕ} {a i s y c : ℕ} → i < length images → Mapping images a i s y → c ≡ cond (eqb (y % 2) 1) (get_or images i 0) 0
-    → Mapping images a (i + 1) (bit_xor s c) (y / 2)
-mapped_goes_on {images} {a} {i} {s} {y} {c} h w e = record {
-  whole = xor_assoc s c (spread (drop (i + 1) images) (y / 2))
-      ∙ ap (bit_xor s) (ap (λ u. bit_xor u (spread (drop (i + 1) images) (y / 2))) e ∙ sym (ap (λ xs. spread xs y) (drop_more images i 0 h))) ∙ w.whole;
-}
-
-pub mapped_ends : {images : List ℕ} {a i s y : ℕ} → length images ≤ i → Mapping images a i s y → s ≡ spread images a
-mapped_ends {images} {a} {i} {s} {y} h w = sym (xor_zero_r s) ∙ sym (ap (λ xs. bit_xor s (spread xs y)) (drop_all i images h)) ∙ w.whole

@@ -46,9 +46,6 @@ squares_go_on {a} {i} {x} {all} {x'} {all'} h w ex ea =
     let p = pow_pos i in
     goes_on modulus256 ring256 h w (ex ∙ square_is modulus256 ring256 x hx) (ea ∙ ap (product modulus256 all) (sym (power_once modulus256 ring256 x' hx'))) (omega arith)
 
-pub squares_end : {a i x all : ℕ} → i ≡ 7 → Powering modulus256 a i x all → all ≡ power modulus256 254 a
-squares_end {a} e w = w.all_is ∙ ap (λ k. power modulus256 (2 * 2 ^ k - 2) a) e
-
 -- Codes in base 3: the cube, and the other times it twice.
 pub cubes_start : (a : ℕ) → a < 81 → Powering modulus81 a 0 a a
 cubes_start a h = record { x_is = sym (power_once modulus81 ring81 a h); all_is = sym (power_once modulus81 ring81 a h) }
@@ -66,6 +63,3 @@ cubes_go_on {a} {i} {x} {all} {x'} {some} {all'} h w ex es ea =
 
 pub cubes_code : {a i x all : ℕ} → a < 81 → Powering modulus81 a i x all → x < 81
 cubes_code {a} {i} h w = subst (λ n. n < 81) (sym w.x_is) (power_code modulus81 81 ring81 (3 ^ i) a h)
-
-pub cubes_end : {a i x all : ℕ} → i ≡ 3 → Powering modulus81 a i x all → all ≡ power modulus81 79 a
-cubes_end {a} e w = w.all_is ∙ ap (λ k. power modulus81 (3 * 3 ^ k - 2) a) e
