@@ -1,6 +1,2 @@
--- What holds of each element of a list.
-use Rattle.std.specs.Prelude.{List, [], ◌∷◌}
-
-abbrev pub All : {A : Type 0} → (A → Type 0) → List A → Type 0
-All P [] = Unit {0}
-All P (x ∷ xs) = P x × All P xs
+-- What holds of each element of a list, by recursion on the list: the library's, under a short name.
+pub use Rattle.std.specs.List.{AllByRecursion as All}
