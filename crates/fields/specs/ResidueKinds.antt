@@ -7,10 +7,9 @@ use Rattle.std.proofs.lemmas.Bool.{cases_lt}
 use Rattle.fields.specs.Lists.{All}
 use Rattle.fields.specs.Meaning.{Meaning, Laws, Fixed, combined}
 use Rattle.fields.specs.Residues.{Modulus, degree, sum, product, power, residues}
-use Rattle.fields.specs.Elements.{elem}
+use Rattle.fields.specs.Elements.{elem, ops}
 use Rattle.fields.specs.Rings.{Ring, power_code, power_add, power_product}
 use Rattle.fields.specs.DigitTests.{DigitLaws}
-use Rattle.fields.specs.Carried.{carried}
 use Rattle.fields.specs.Carried
 use Rattle.fields.specs.Frobenius
 
@@ -139,34 +138,34 @@ module _ (q : Modulus) (r : Ring q (size q)) where
       squares_additive two a b ha hb =
           let l = plain_laws in
           let hs = r.sum_code a b ha hb in
-          let o = Carried.carried_laws l in
+          let o = Carried.ops_laws l in
           let sq : (x : ℕ) → x < size q → power q 2 x ≡ product q x x = λ x h. power_next 1 x ∙ ap (product q x) (power_once x h) in
-          let e2 : (carried plain).add (carried plain).one (carried plain).one ≡ (carried plain).zero =
-          ap₂ (carried plain).add (sym (Carried.one_is plain)) (sym (Carried.one_is plain)) ∙ sym (Carried.sum_elem l 1 1 r.one_code r.one_code) ∙ ap (elem plain) two ∙ Carried.zero_is plain in
+          let e2 : (ops plain).add (ops plain).one (ops plain).one ≡ (ops plain).zero =
+          ap₂ (ops plain).add (sym (Carried.one_is plain)) (sym (Carried.one_is plain)) ∙ sym (Carried.sum_elem l 1 1 r.one_code r.one_code) ∙ ap (elem plain) two ∙ Carried.zero_is plain in
           sq (sum q a b) hs
           ∙ Carried.same_elem l (product q (sum q a b) (sum q a b)) (sum q (product q a a) (product q b b)) (r.product_code _ _ hs hs) (r.sum_code _ _ (r.product_code a a ha ha) (r.product_code b b hb hb))
-          (Carried.product_elem l (sum q a b) (sum q a b) hs hs ∙ ap (λ x. (carried plain).mul x x) (Carried.sum_elem l a b ha hb) ∙ Frobenius.square_add o e2 (elem plain a) (elem plain b)
-          ∙ sym (Carried.sum_elem l (product q a a) (product q b b) (r.product_code a a ha ha) (r.product_code b b hb hb) ∙ ap₂ (carried plain).add (Carried.product_elem l a a ha ha) (Carried.product_elem l b b hb hb)))
+          (Carried.product_elem l (sum q a b) (sum q a b) hs hs ∙ ap (λ x. (ops plain).mul x x) (Carried.sum_elem l a b ha hb) ∙ Frobenius.square_add o e2 (elem plain a) (elem plain b)
+          ∙ sym (Carried.sum_elem l (product q a a) (product q b b) (r.product_code a a ha ha) (r.product_code b b hb hb) ∙ ap₂ (ops plain).add (Carried.product_elem l a a ha ha) (Carried.product_elem l b b hb hb)))
           ∙ sym (ap₂ (sum q) (sq a ha) (sq b hb))
 
       -- Cubes do where 1 + (1 + 1) is 0.
       pub cubes_additive : sum q 1 (sum q 1 1) ≡ 0 → Additive 3
       cubes_additive three a b ha hb =
           let l = plain_laws in
-          let o = Carried.carried_laws l in
+          let o = Carried.ops_laws l in
           let hs = r.sum_code a b ha hb in
           let h2 = r.sum_code 1 1 r.one_code r.one_code in
           let cube : (x : ℕ) → x < size q → power q 3 x ≡ product q x (product q x x) = λ x h. power_next 2 x ∙ ap (product q x) (power_next 1 x ∙ ap (product q x) (power_once x h)) in
           let pc : (x : ℕ) → x < size q → product q x (product q x x) < size q = λ x h. r.product_code _ _ h (r.product_code _ _ h h) in
-          let pe : (x : ℕ) → x < size q → elem plain (product q x (product q x x)) ≡ (carried plain).mul (elem plain x) ((carried plain).mul (elem plain x) (elem plain x)) =
-          λ x h. Carried.product_elem l x (product q x x) h (r.product_code _ _ h h) ∙ ap ((carried plain).mul (elem plain x)) (Carried.product_elem l x x h h) in
-          let e3 : (carried plain).add (carried plain).one ((carried plain).add (carried plain).one (carried plain).one) ≡ (carried plain).zero =
-          ap₂ (λ x y. (carried plain).add x ((carried plain).add y y)) (sym (Carried.one_is plain)) (sym (Carried.one_is plain))
-          ∙ ap ((carried plain).add (elem plain 1)) (sym (Carried.sum_elem l 1 1 r.one_code r.one_code)) ∙ sym (Carried.sum_elem l 1 (sum q 1 1) r.one_code h2) ∙ ap (elem plain) three ∙ Carried.zero_is plain in
+          let pe : (x : ℕ) → x < size q → elem plain (product q x (product q x x)) ≡ (ops plain).mul (elem plain x) ((ops plain).mul (elem plain x) (elem plain x)) =
+          λ x h. Carried.product_elem l x (product q x x) h (r.product_code _ _ h h) ∙ ap ((ops plain).mul (elem plain x)) (Carried.product_elem l x x h h) in
+          let e3 : (ops plain).add (ops plain).one ((ops plain).add (ops plain).one (ops plain).one) ≡ (ops plain).zero =
+          ap₂ (λ x y. (ops plain).add x ((ops plain).add y y)) (sym (Carried.one_is plain)) (sym (Carried.one_is plain))
+          ∙ ap ((ops plain).add (elem plain 1)) (sym (Carried.sum_elem l 1 1 r.one_code r.one_code)) ∙ sym (Carried.sum_elem l 1 (sum q 1 1) r.one_code h2) ∙ ap (elem plain) three ∙ Carried.zero_is plain in
           cube (sum q a b) hs
           ∙ Carried.same_elem l (product q (sum q a b) (product q (sum q a b) (sum q a b))) (sum q (product q a (product q a a)) (product q b (product q b b))) (pc _ hs) (r.sum_code _ _ (pc a ha) (pc b hb))
-          (pe (sum q a b) hs ∙ ap (λ x. (carried plain).mul x ((carried plain).mul x x)) (Carried.sum_elem l a b ha hb) ∙ Frobenius.cube_add o e3 (elem plain a) (elem plain b)
-          ∙ sym (Carried.sum_elem l _ _ (pc a ha) (pc b hb) ∙ ap₂ (carried plain).add (pe a ha) (pe b hb)))
+          (pe (sum q a b) hs ∙ ap (λ x. (ops plain).mul x ((ops plain).mul x x)) (Carried.sum_elem l a b ha hb) ∙ Frobenius.cube_add o e3 (elem plain a) (elem plain b)
+          ∙ sym (Carried.sum_elem l _ _ (pc a ha) (pc b hb) ∙ ap₂ (ops plain).add (pe a ha) (pe b hb)))
           ∙ sym (ap₂ (sum q) (cube a ha) (cube b hb))
 
       -- A power of a power does where both do.
