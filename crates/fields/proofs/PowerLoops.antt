@@ -5,7 +5,7 @@ use Rattle.std.proofs.lemmas.Nat.{pow_pos}
 use Rattle.fields.specs.Residues.{Modulus, degree, product, power}
 use Rattle.fields.specs.Shipped.{modulus256, modulus81}
 use Rattle.fields.specs.Rings.{Ring, ring256, ring81, power_add, power_code}
-use Rattle.fields.specs.ResidueKinds.{power_mul, power_once, power_next}
+use Rattle.fields.specs.ResidueKinds.{power_mul, power_once, square_is}
 
 -- After i rounds x is the power p^i of a, and the other the power p^(i + 1) - 2.
 pub record Powering (q : Modulus) (a i x all : ℕ) : Type 0 where
@@ -26,13 +26,6 @@ module _ (q : Modulus) (r : Ring q (q.base ^ degree q)) where
             ∙ power_add q (q.base ^ degree q) r (q.base * q.base ^ i - 2) (q.base ^ i * q.base * (q.base - 1)) a h
             ∙ ap (λ k. power q k a) (sums ∙ ap (λ n. q.base * n - 2) up);
       }
-
-  -- The square and the cube by products.
-  pub square_is : (a : ℕ) → a < q.base ^ degree q → product q a a ≡ power q 2 a
-  square_is a h = sym (power_next q r 1 a ∙ ap (product q a) (power_once q r a h))
-
-  pub cube_is : (a : ℕ) → a < q.base ^ degree q → product q a (product q a a) ≡ power q 3 a
-  cube_is a h = ap (product q a) (square_is a h) ∙ sym (power_next q r 2 a)
 
 -- Bytes: the square, and the other times it.
 pub squares_start : (a : ℕ) → a < 256 → Powering modulus256 a 0 a 1

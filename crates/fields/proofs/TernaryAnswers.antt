@@ -4,8 +4,7 @@ use Rattle.fields.specs.Meaning.{clip}
 use Rattle.fields.specs.Residues.{coefficients, code, plus, scale, times, sum, opposite, product, power}
 use Rattle.fields.specs.Shipped.{modulus81, gf81}
 use Rattle.fields.specs.Rings.{ring81, power_code}
-use Rattle.fields.specs.ResidueKinds.{power_mul}
-use Rattle.fields.proofs.PowerLoops.{cube_is}
+use Rattle.fields.specs.ResidueKinds.{cube_is, power_mul}
 
 pub sum_answers : {x y r : ℕ} {f g h : List ℕ} (a b : ℕ) → x ≡ clip gf81 a → y ≡ clip gf81 b → f ≡ coefficients 3 4 x → g ≡ coefficients 3 4 y → h ≡ plus 3 f g → r ≡ code 3 h
     → r ≡ sum modulus81 (clip gf81 a) (clip gf81 b)
