@@ -8,7 +8,7 @@
 use Rattle.std.specs.Prelude.{◌≡◌, ℕ, suc, Bool, true, false, cond, T, List, [], ◌∷◌, length, ◌==◌, nat_lt, refl}
 use Rattle.std.proofs.Common.{sym, ap, ap₂, ◌∙◌, subst, arith, eqb→eq, ltb→lt}
 use Rattle.std.proofs.lemmas.Bool.{eq-eqb, cond-true}
-use Rattle.fields.specs.Lists.{All}
+use Rattle.fields.specs.Lists.{All, all_follow}
 use Rattle.fields.specs.Meaning.{Meaning, Code, Fixed, combined}
 use Rattle.fields.specs.Range.{both, both_left, both_right, below, at}
 
@@ -90,10 +90,6 @@ module _ (m : Meaning) (fixed : List ℕ) where
     listed : (d : ℕ) → Fixed m d → T (member d fixed)
     listed d f = subst T (cond-true (m.twist d == d) (member d fixed) true (eq-eqb _ _ f.1)) (at (λ d. cond (m.twist d == d) (member d fixed) true) m.size t2 d f.0)
 
-    all_listed : (ds : List ℕ) → All (Fixed m) ds → All (λ d. T (member d fixed)) ds
-    all_listed [] f = tt
-    all_listed (d ∷ ds) f = (listed d f.0, all_listed ds f.1)
-
     at_code : (a : ℕ) → Code m a → T (both (every (λ d. member d fixed) (m.digits a)) (combined m (m.digits a) m.basis == a))
     at_code a h = at (λ a. both (every (λ d. member d fixed) (m.digits a)) (combined m (m.digits a) m.basis == a)) m.size t3 a h
 
@@ -102,5 +98,5 @@ module _ (m : Meaning) (fixed : List ℕ) where
       digits_fixed = λ a h. fixes (m.digits a) (both_left (every (λ d. member d fixed) (m.digits a)) (combined m (m.digits a) m.basis == a) (at_code a h));
       digits_give = λ a h. eqb→eq _ _ (both_right (every (λ d. member d fixed) (m.digits a)) (combined m (m.digits a) m.basis == a) (at_code a h));
       digits_only = λ a ds h n f e.
-          same_is ds (m.digits (combined m ds m.basis)) (at_rows m.width fixed (λ ds. same ds (m.digits (combined m ds m.basis))) t4 ds n (all_listed ds f)) ∙ ap m.digits e;
+          same_is ds (m.digits (combined m ds m.basis)) (at_rows m.width fixed (λ ds. same ds (m.digits (combined m ds m.basis))) t4 ds n (all_follow (Fixed m) (λ d. T (member d fixed)) listed ds f)) ∙ ap m.digits e;
     }

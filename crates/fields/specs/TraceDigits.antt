@@ -10,7 +10,7 @@ use Rattle.std.proofs.Common.{sym, ap₂, ◌∙◌, subst, pow-suc, mul_comm}
 use Rattle.std.proofs.Math.Path.{ap}
 use Rattle.std.proofs.Math.Nat.{pow-zero}
 use Rattle.std.proofs.lemmas.List.{length-map}
-use Rattle.fields.specs.Lists.{All}
+use Rattle.fields.specs.Lists.{All, all_follow, all_map}
 use Rattle.fields.specs.Field.{comb}
 use Rattle.fields.specs.Meaning.{Meaning, Laws, Code, combination}
 use Rattle.fields.specs.Residues.{Modulus, sum, product, power, trace, traces, residues}
@@ -41,11 +41,6 @@ identity_map {A} {B} f z u (suc n) = ap₂ (λ x xs. x ∷ xs) (ap (λ xs. f u �
     past : (rows : List (List A)) → map (map f) (map (λ row. z ∷ row) rows) ≡ map (λ row. f z ∷ row) (map (map f) rows)
     past [] = refl
     past (row ∷ rows) = ap (λ xs. (f z ∷ map f row) ∷ xs) (past rows)
-
--- What holds of the image of each that P holds of, holds of all the images.
-all_map : {A B : Type 0} (P : A → Type 0) (Q : B → Type 0) (f : A → B) → ((x : A) → P x → Q (f x)) → (xs : List A) → All P xs → All Q (map f xs)
-all_map P Q f h [] p = tt
-all_map P Q f h (x ∷ xs) p = (h x p.0, all_map P Q f h xs p.1)
 
 module _ (q : Modulus) (r : Ring q (size q)) (order : Ordered q r) (small : size q ≤ 256) (t : ℕ) (additive : Additive q r order small t) where
   abbrev m : Meaning
@@ -139,8 +134,7 @@ module _ (q : Modulus) (r : Ring q (size q)) (order : Ordered q r) (small : size
 
   -- Kept codes are codes.
   kept_codes : (ds : List ℕ) → All Kept ds → All (Code m) ds
-  kept_codes [] p = tt
-  kept_codes (d ∷ ds) p = (p.0.0, kept_codes ds p.1)
+  kept_codes = all_follow Kept (Code m) (λ d g. g.0)
 
   module _ (cs bs : List ℕ) (cs-codes : All (Code m) cs) (bs-codes : All (Code m) bs) where
     -- The first table, told in elements: the unit rows.
