@@ -6,10 +6,10 @@ use Rattle.fields.specs.Meaning.{clip, digit_row}
 use Rattle.fields.specs.Residues.{sum, opposite, product, power, trace, traces}
 use Rattle.fields.specs.Shipped.{modulus256, gf256}
 use Rattle.fields.specs.Additive.{spread}
-use Rattle.fields.specs.Rings.{ring256, power_code}
+use Rattle.fields.specs.Rings.{ring256, power_code, trace_code}
 use Rattle.fields.proofs.Binary.{sum_xor, opposite_same}
 use Rattle.fields.specs.ResidueKinds.{Additive, powers_additive}
-use Rattle.fields.proofs.CodeTraces.{trace_code, trace_product_sum}
+use Rattle.fields.proofs.CodeTraces.{trace_product_sum}
 use Rattle.fields.specs.ShippedLaws.{order256, fourths256}
 use Rattle.fields.proofs.Additive.{KeepsXor, images, additive_spread}
 
