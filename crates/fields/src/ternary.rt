@@ -13,6 +13,14 @@ use super::{Kind, clipped};
 #[derive(Clone, Copy, Debug, Default, PartialEq, Eq)]
 pub struct Gf81;
 
+// The coefficients of z^4 + z + 2 below the top one.
+const LOW: Trits = Trits {
+    c0: 2,
+    c1: 1,
+    c2: 0,
+    c3: 0,
+};
+
 // The coefficients of a, and the code that has them.
 fn split(a: u8) -> Trits
     ensures { trits result ≡ coefficients 3 4 a }
@@ -67,29 +75,18 @@ fn raise(f: Trits) -> Trits
         c2: f.c1,
         c3: f.c2,
     };
-    let low = Trits {
-        c0: 2,
-        c1: 1,
-        c2: 0,
-        c3: 0,
-    };
-    plus(moved, scale(f.c3 * 2, low))
+    plus(moved, scale(f.c3 * 2, LOW))
 }
 
 // f (g0 + z (g1 + z (g2 + z g3))), from the inside.
 fn times(f: Trits, g: Trits) -> Trits
     ensures { trits result ≡ residues.times modulus81 (trits f) (trits g) }
 {
-    let none = Trits {
-        c0: 0,
-        c1: 0,
-        c2: 0,
-        c3: 0,
-    };
-    let inner = plus(scale(g.c3, f), raise(none));
-    let middle = plus(scale(g.c2, f), raise(inner));
-    let outer = plus(scale(g.c1, f), raise(middle));
-    plus(scale(g.c0, f), raise(outer))
+    let mut sum = scale(g.c3, f);
+    for c in [g.c2, g.c1, g.c0] {
+        sum = plus(scale(c, f), raise(sum));
+    }
+    sum
 }
 
 fn multiplied(a: u8, b: u8) -> u8
