@@ -7,11 +7,17 @@ use Rattle.fields.specs.Field.{plus, scale, comb}
 use Rattle.fields.specs.Field as field
 use Rattle.fields.specs.Meaning.{Meaning, Laws, Code, Fixed, combined}
 use Rattle.fields.specs.Elements.{Elem, elem, elems, codes, ops, basis_of, digits_of, DigitsLinear}
+use Rattle.fields.specs.Carried.{carried}
 use Rattle.fields.specs.Carried
 use Rattle.fields.proofs.Carrier
 use Rattle.fields.specs.Rows
 
 module _ {m : Meaning} (l : Laws m) where
+  -- The element of a combination of codes is the combination of their elements.
+  pub combined_elem : (ds bs : List ℕ) → All (Code m) ds → All (Code m) bs → elem m (combined m ds bs) ≡ comb (ops m) (elems m ds) (elems m bs)
+  unfolding ops carried
+  combined_elem = Carried.combined_elem l
+
   -- Fixed codes are the codes of fixed elements.
   pub fixed_elem : (d : ℕ) → Fixed m d → field.Fixed (ops m) (elem m d)
   fixed_elem d f = sym (Carrier.twists m d (sym (ap m.twist (Carrier.counts l d f.0) ∙ f.1)))
@@ -34,13 +40,13 @@ module _ {m : Meaning} (l : Laws m) where
   gives : (x : Elem m) → comb (ops m) (digits_of m x) (basis_of m) ≡ x
   gives x =
       let h = Carrier.is_code l x in
-      sym (Carried.combined_elem l (m.digits x.code) m.basis (all_codes _ (l.digits_fixed x.code h)) l.basis_codes)
+      sym (combined_elem (m.digits x.code) m.basis (all_codes _ (l.digits_fixed x.code h)) l.basis_codes)
       ∙ ap (elem m) (l.digits_give x.code h) ∙ Carrier.elem_code x
 
   only : (x : Elem m) (ds : List (Elem m)) → length ds ≡ length (basis_of m) → All (field.Fixed (ops m)) ds → comb (ops m) ds (basis_of m) ≡ x → ds ≡ digits_of m x
   only x ds n f e =
       let k = all_map (field.Fixed (ops m)) (Fixed m) (λ x. x.code) fixed_code ds f in
-      let given = Carried.combined_elem l (codes ds) m.basis (all_codes (codes ds) k) l.basis_codes ∙ ap (λ w. comb (ops m) w (basis_of m)) (Carrier.elems_codes ds) ∙ e in
+      let given = combined_elem (codes ds) m.basis (all_codes (codes ds) k) l.basis_codes ∙ ap (λ w. comb (ops m) w (basis_of m)) (Carrier.elems_codes ds) ∙ e in
       let c : combined m (codes ds) m.basis ≡ x.code =
       Carrier.answers x (Carrier.counts l _ (Carried.combined_code l (codes ds) m.basis (all_codes (codes ds) k) l.basis_codes)) given in
       let w : length (codes ds) ≡ m.width = length-map ds (λ y. y.code) ∙ n ∙ length-map m.basis (elem m) ∙ l.basis_length in

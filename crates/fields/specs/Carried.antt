@@ -1,5 +1,8 @@
--- The codes of a lawful kind, and its elements: with the operations of the kind these are a field with an automorphism. The laws of
--- kinds rest on this, so it stands in specs.
+-- The codes of a lawful kind, and elements, as far as the laws of kinds rest on them.
+--
+--   carried m    the operations of a kind on its elements, as `ops` of `Elements` has them, under a name of their own: what shows that
+--                a kind keeps its laws does not rest on what contracts cite. With `ops` here too, a wrong `ops` would leave laws in
+--                specs unread, where now a proof refuses it.
 use Rattle.std.specs.Prelude.{◌≡◌, ℕ, ◌<◌, cond, ◌≢◌, List, [], ◌∷◌, map, nat_lt}
 use Rattle.std.proofs.Math.Path.{refl, sym, ap}
 use Rattle.std.proofs.Common.{◌∙◌, subst, inl, inr, arith}
@@ -11,7 +14,7 @@ use Rattle.fields.specs.Lists.{All}
 use Rattle.fields.specs.Field.{Ops, comb}
 use Rattle.fields.specs.Field as field
 use Rattle.fields.specs.Meaning.{Meaning, Laws, Code, clip, combined}
-use Rattle.fields.specs.Elements.{Element, element, Elem, elem, elems, codes, reciprocal_of, ops}
+use Rattle.fields.specs.Elements.{Element, element, Elem, elem, elems, codes, reciprocal_of}
 
 -- A code is the code of its element.
 pub code_elem : (m : Meaning) (a : ℕ) → clip m a ≡ a → a ≡ (elem m a).code
@@ -43,22 +46,34 @@ module _ {n : ℕ} where
   elems_codes (x ∷ xs) = ap (λ y. y ∷ map (element n) (codes xs)) (elem_code x) ∙ ap (λ ys. x ∷ ys) (elems_codes xs)
 
 module _ (m : Meaning) where
-  pub zero_is : elem m 0 ≡ (ops m).zero
-  unfolding ops
+  unfoldable pub carried : Ops (Elem m)
+  carried = record {
+    zero = elem m 0;
+    one = elem m 1;
+    add = λ x y. elem m (m.sum x.code y.code);
+    mul = λ x y. elem m (m.product x.code y.code);
+    neg = λ x. elem m (m.opposite x.code);
+    inv = λ x. elem m (reciprocal_of m x.code);
+    twist = λ x. elem m (m.twist x.code);
+    untwist = λ x. elem m (m.untwist x.code);
+  }
+
+  pub zero_is : elem m 0 ≡ carried.zero
+  unfolding carried
   zero_is = refl
 
-  pub one_is : elem m 1 ≡ (ops m).one
-  unfolding ops
+  pub one_is : elem m 1 ≡ carried.one
+  unfolding carried
   one_is = refl
 
-  -- What a kind answers to a sum and a product of what numbers count as, told in elements.
-  pub sums : {r : ℕ} (a b : ℕ) → r ≡ m.sum (clip m a) (clip m b) → elem m r ≡ (ops m).add (elem m a) (elem m b)
-  unfolding element ops
-  sums a b e = ap (elem m) e
+  -- A sum and a product of what numbers count as, told in elements.
+  pub adds : (a b : ℕ) → elem m (m.sum (clip m a) (clip m b)) ≡ carried.add (elem m a) (elem m b)
+  unfolding element carried
+  adds a b = refl
 
-  pub multiplies : {r : ℕ} (a b : ℕ) → r ≡ m.product (clip m a) (clip m b) → elem m r ≡ (ops m).mul (elem m a) (elem m b)
-  unfolding element ops
-  multiplies a b e = ap (elem m) e
+  pub multiplies : (a b : ℕ) → elem m (m.product (clip m a) (clip m b)) ≡ carried.mul (elem m a) (elem m b)
+  unfolding element carried
+  multiplies a b = refl
 
   pub clips : {r : ℕ} (a : ℕ) → r ≡ clip m a → (elem m r ≡ elem m a) × (clip m r ≡ r)
   unfolding element
@@ -106,16 +121,16 @@ module _ {m : Meaning} (l : Laws m) where
   reciprocal_code a h = cond_both (nat_lt 0 a) (m.inverse a) 0 (λ x. x < m.size) (λ e. l.inverse_code a h) (λ e. zero_code)
 
   -- Sums and products of codes, told in elements; and codes are equal where their elements are.
-  pub sum_elem : (a b : ℕ) → Code m a → Code m b → elem m (m.sum a b) ≡ (ops m).add (elem m a) (elem m b)
-  sum_elem a b ha hb = sums m a b (sym (ap (λ x. m.sum x (clip m b)) (counts a ha) ∙ ap (m.sum a) (counts b hb)))
+  pub sum_elem : (a b : ℕ) → Code m a → Code m b → elem m (m.sum a b) ≡ (carried m).add (elem m a) (elem m b)
+  sum_elem a b ha hb = ap (elem m) (sym (ap (λ x. m.sum x (clip m b)) (counts a ha) ∙ ap (m.sum a) (counts b hb))) ∙ adds m a b
 
-  pub product_elem : (a b : ℕ) → Code m a → Code m b → elem m (m.product a b) ≡ (ops m).mul (elem m a) (elem m b)
-  product_elem a b ha hb = multiplies m a b (sym (ap (λ x. m.product x (clip m b)) (counts a ha) ∙ ap (m.product a) (counts b hb)))
+  pub product_elem : (a b : ℕ) → Code m a → Code m b → elem m (m.product a b) ≡ (carried m).mul (elem m a) (elem m b)
+  product_elem a b ha hb = ap (elem m) (sym (ap (λ x. m.product x (clip m b)) (counts a ha) ∙ ap (m.product a) (counts b hb))) ∙ multiplies m a b
 
   -- The elements are a field with an automorphism.
-  pub ops_laws : field.Laws (ops m)
-  unfolding element ops
-  ops_laws = record {
+  pub carried_laws : field.Laws (carried m)
+  unfolding element carried
+  carried_laws = record {
     same = λ x y. elim (ℕ_discrete x.code y.code) [ yes e ↦ yes (same_code x y e) | no n ↦ no (λ e. n (ap (λ (z : Elem m). z.code) e)) ];
     add_comm = λ x y. up (l.sum_comm x.code y.code (is_code x) (is_code y));
     add_assoc = λ x y z.
@@ -163,10 +178,10 @@ module _ {m : Meaning} (l : Laws m) where
   combined_code (d ∷ ds) [] p q = zero_code
   combined_code (d ∷ ds) (b ∷ bs) p q = l.sum_code _ _ (l.product_code d b p.0 q.0) (combined_code ds bs p.1 q.1)
 
-  pub combined_elem : (ds bs : List ℕ) → All (Code m) ds → All (Code m) bs → elem m (combined m ds bs) ≡ comb (ops m) (elems m ds) (elems m bs)
+  pub combined_elem : (ds bs : List ℕ) → All (Code m) ds → All (Code m) bs → elem m (combined m ds bs) ≡ comb (carried m) (elems m ds) (elems m bs)
   combined_elem [] bs p q = zero_is m
   combined_elem (d ∷ ds) [] p q = zero_is m
   combined_elem (d ∷ ds) (b ∷ bs) p q =
       sum_elem (m.product d b) (combined m ds bs) (l.product_code d b p.0 q.0) (combined_code ds bs p.1 q.1)
-      ∙ ap (λ x. (ops m).add x (elem m (combined m ds bs))) (product_elem d b p.0 q.0)
-      ∙ ap ((ops m).add ((ops m).mul (elem m d) (elem m b))) (combined_elem ds bs p.1 q.1)
+      ∙ ap (λ x. (carried m).add x (elem m (combined m ds bs))) (product_elem d b p.0 q.0)
+      ∙ ap ((carried m).add ((carried m).mul (elem m d) (elem m b))) (combined_elem ds bs p.1 q.1)

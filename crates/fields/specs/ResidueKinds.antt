@@ -7,7 +7,8 @@ use Rattle.std.proofs.lemmas.Bool.{cases_lt}
 use Rattle.fields.specs.Lists.{All}
 use Rattle.fields.specs.Meaning.{Meaning, Laws, Fixed, combined}
 use Rattle.fields.specs.Residues.{Modulus, degree, sum, product, power, residues}
-use Rattle.fields.specs.Elements.{Elem, elem, ops}
+use Rattle.fields.specs.Elements.{Elem, elem}
+use Rattle.fields.specs.Carried.{carried}
 use Rattle.fields.specs.Rings.{Ring, power_code, power_add, power_product}
 use Rattle.fields.specs.DigitTests.{DigitLaws}
 use Rattle.fields.specs.Carried
@@ -141,38 +142,38 @@ module _ (q : Modulus) (r : Ring q (size q)) where
       Additive t = (a b : ℕ) → a < size q → b < size q → power q t (sum q a b) ≡ sum q (power q t a) (power q t b)
 
       -- It does where a map of elements that keeps sums stands for it.
-      additive_from : (t : ℕ) (τ : Elem plain → Elem plain) → ((a : ℕ) → a < size q → elem plain (power q t a) ≡ τ (elem plain a)) → ((x y : Elem plain) → τ ((ops plain).add x y) ≡ (ops plain).add (τ x) (τ y)) → Additive t
+      additive_from : (t : ℕ) (τ : Elem plain → Elem plain) → ((a : ℕ) → a < size q → elem plain (power q t a) ≡ τ (elem plain a)) → ((x y : Elem plain) → τ ((carried plain).add x y) ≡ (carried plain).add (τ x) (τ y)) → Additive t
       additive_from t τ stands adds a b ha hb =
           let hs = r.sum_code a b ha hb in
           let pa = power_code q (size q) r t a ha in
           let pb = power_code q (size q) r t b hb in
           Carried.same_elem plain_laws _ _ (power_code q (size q) r t (sum q a b) hs) (r.sum_code _ _ pa pb)
           (stands (sum q a b) hs ∙ ap τ (Carried.sum_elem plain_laws a b ha hb) ∙ adds (elem plain a) (elem plain b)
-          ∙ sym (Carried.sum_elem plain_laws _ _ pa pb ∙ ap₂ (ops plain).add (stands a ha) (stands b hb)))
+          ∙ sym (Carried.sum_elem plain_laws _ _ pa pb ∙ ap₂ (carried plain).add (stands a ha) (stands b hb)))
 
       -- The square and the cube of an element, and 1 + 1.
-      square_elem : (a : ℕ) → a < size q → elem plain (power q 2 a) ≡ (ops plain).mul (elem plain a) (elem plain a)
+      square_elem : (a : ℕ) → a < size q → elem plain (power q 2 a) ≡ (carried plain).mul (elem plain a) (elem plain a)
       square_elem a h = ap (elem plain) (sym (square_is a h)) ∙ Carried.product_elem plain_laws a a h h
 
-      cube_elem : (a : ℕ) → a < size q → elem plain (power q 3 a) ≡ (ops plain).mul (elem plain a) ((ops plain).mul (elem plain a) (elem plain a))
+      cube_elem : (a : ℕ) → a < size q → elem plain (power q 3 a) ≡ (carried plain).mul (elem plain a) ((carried plain).mul (elem plain a) (elem plain a))
       cube_elem a h =
-          ap (elem plain) (power_next 2 a) ∙ Carried.product_elem plain_laws a (power q 2 a) h (power_code q (size q) r 2 a h) ∙ ap ((ops plain).mul (elem plain a)) (square_elem a h)
+          ap (elem plain) (power_next 2 a) ∙ Carried.product_elem plain_laws a (power q 2 a) h (power_code q (size q) r 2 a h) ∙ ap ((carried plain).mul (elem plain a)) (square_elem a h)
 
-      two_elem : (ops plain).add (ops plain).one (ops plain).one ≡ elem plain (sum q 1 1)
-      two_elem = sym (Carried.sum_elem plain_laws 1 1 r.one_code r.one_code ∙ ap₂ (ops plain).add (Carried.one_is plain) (Carried.one_is plain))
+      two_elem : (carried plain).add (carried plain).one (carried plain).one ≡ elem plain (sum q 1 1)
+      two_elem = sym (Carried.sum_elem plain_laws 1 1 r.one_code r.one_code ∙ ap₂ (carried plain).add (Carried.one_is plain) (Carried.one_is plain))
 
       -- Squares do where 1 + 1 is 0.
       pub squares_additive : sum q 1 1 ≡ 0 → Additive 2
       squares_additive two =
-          additive_from 2 (λ x. (ops plain).mul x x) square_elem (Frobenius.square_add (Carried.ops_laws plain_laws) (two_elem ∙ ap (elem plain) two ∙ Carried.zero_is plain))
+          additive_from 2 (λ x. (carried plain).mul x x) square_elem (Frobenius.square_add (Carried.carried_laws plain_laws) (two_elem ∙ ap (elem plain) two ∙ Carried.zero_is plain))
 
       -- Cubes do where 1 + (1 + 1) is 0.
       pub cubes_additive : sum q 1 (sum q 1 1) ≡ 0 → Additive 3
       cubes_additive three =
-          let none : (ops plain).add (ops plain).one ((ops plain).add (ops plain).one (ops plain).one) ≡ (ops plain).zero =
-          ap₂ (ops plain).add (sym (Carried.one_is plain)) two_elem ∙ sym (Carried.sum_elem plain_laws 1 (sum q 1 1) r.one_code (r.sum_code 1 1 r.one_code r.one_code))
+          let none : (carried plain).add (carried plain).one ((carried plain).add (carried plain).one (carried plain).one) ≡ (carried plain).zero =
+          ap₂ (carried plain).add (sym (Carried.one_is plain)) two_elem ∙ sym (Carried.sum_elem plain_laws 1 (sum q 1 1) r.one_code (r.sum_code 1 1 r.one_code r.one_code))
           ∙ ap (elem plain) three ∙ Carried.zero_is plain in
-          additive_from 3 (λ x. (ops plain).mul x ((ops plain).mul x x)) cube_elem (Frobenius.cube_add (Carried.ops_laws plain_laws) none)
+          additive_from 3 (λ x. (carried plain).mul x ((carried plain).mul x x)) cube_elem (Frobenius.cube_add (Carried.carried_laws plain_laws) none)
 
       -- A power of a power does where both do.
       pub powers_additive : (s t : ℕ) → Additive s → Additive t → Additive (s * t)
