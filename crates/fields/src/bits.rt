@@ -44,7 +44,7 @@ fn times(a: u8, b: u8) -> u8
     let mut sum = 0u8;
     let mut x = a;
     let mut y = b;
-    for _i in 0..8usize {
+    for _ in 0..8u8 {
         sum ^= chosen(x, y);
         x = double(x);
         y >>= 1;
@@ -71,7 +71,7 @@ fn reciprocal(a: u8) -> u8
 {
     let mut x = a;
     let mut all = 1;
-    for _i in 0..7usize {
+    for _ in 0..7u8 {
         x = times(x, x);
         all = times(all, x);
     }

@@ -110,7 +110,7 @@ fn reciprocal(a: u8) -> u8
 {
     let mut x = a;
     let mut all = a;
-    for _i in 0..3usize {
+    for _ in 0..3u8 {
         x = cube(x);
         all = multiplied(multiplied(all, x), x);
     }
