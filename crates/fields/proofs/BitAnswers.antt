@@ -68,3 +68,6 @@ digits_answer r1 r2 r3 r4 a h e1 e2 e3 e4 =
     ap₂ (λ x y. x ∷ y ∷ r3 ∷ r4 ∷ 0 ∷ 0 ∷ 0 ∷ 0 ∷ []) (e1 ∙ sym (digit_spreads 3 (lit< tt) refl a h)) (e2 ∙ sym (digit_spreads 140 (lit< tt) refl a h))
     ∙ ap₂ (λ x y. digit 3 a ∷ digit 140 a ∷ x ∷ y ∷ 0 ∷ 0 ∷ 0 ∷ 0 ∷ []) (e3 ∙ sym (digit_spreads 69 (lit< tt) refl a h)) (e4 ∙ sym (digit_spreads 200 (lit< tt) refl a h))
     ∙ sym (ap (λ x. digit 3 x ∷ digit 140 x ∷ digit 69 x ∷ digit 200 x ∷ 0 ∷ 0 ∷ 0 ∷ 0 ∷ []) (clip256 a h))
+
+-- What the check takes for the calls of src/bits.rt.
+pub ruleset answers = (sum_answers, opposite_answers, twist_answers, untwist_answers, digits_answer)

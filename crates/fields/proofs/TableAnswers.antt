@@ -60,3 +60,6 @@ inverse_answers a x e h p =
 
 pub digits_answer : (a x : ℕ) → x ≡ clip gf16 a → x < 16 → get_or first16 x 0 ∷ get_or second16 x 0 ∷ 0 ∷ 0 ∷ 0 ∷ 0 ∷ 0 ∷ 0 ∷ [] ≡ digit_row gf16 a
 digits_answer a x e h = digits_rule x h ∙ ap (λ y. gf16.digits y ++ 0 ∷ 0 ∷ 0 ∷ 0 ∷ 0 ∷ 0 ∷ []) (cond-true (ltb x 16) x 0 (lt-ltb x 16 h) ∙ e)
+
+-- What the check takes for the calls of src/tables.rt.
+pub ruleset answers = (product_rule, zero_product, sum_answers, opposite_answers, inverse_answers, digits_answer, fourth_answers)

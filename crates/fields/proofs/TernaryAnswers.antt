@@ -51,3 +51,6 @@ cube_code {a} h e = subst (λ n. n < 81) (sym e) (power_code modulus81 81 ring81
 pub untwist_answers : {x y z r : ℕ} (a : ℕ) → x ≡ clip gf81 a → x < 81 → y ≡ power modulus81 3 x → z ≡ power modulus81 3 y → r ≡ power modulus81 3 z → r ≡ power modulus81 27 (clip gf81 a)
 untwist_answers {x} {y} {z} a ex h ey ez er =
     er ∙ ap (power modulus81 3) (ez ∙ ap (power modulus81 3) ey ∙ power_mul modulus81 ring81 3 3 x h) ∙ power_mul modulus81 ring81 3 9 x h ∙ ap (power modulus81 27) ex
+
+-- What the check takes for the calls of src/ternary.rt.
+pub ruleset answers = (sum_answers, opposite_answers, product_answers, cube_answers, cube_code, untwist_answers)

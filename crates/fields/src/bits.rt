@@ -1,5 +1,7 @@
 // Kind 1: bit polynomials modulo z^8 + z^4 + z^3 + z^2 + 1; bit 0 is the constant. Every operation is shifts, masks and
 // exclusive or, without a branch; the inverse alone asks whether its argument is 0.
+#![tactic(auto, using(crate::proofs::BitAnswers::answers))]
+
 ghost use Rattle.std.specs.Prelude.{◌≡◌, ℕ, ◌%◌, if◌then◌else◌, nat_eq};
 ghost use Rattle.fields.specs.Residues.{raised, product, power};
 ghost use Rattle.fields.specs.Shipped.{modulus256, gf256};

@@ -1,4 +1,6 @@
 // Kind 2: bit polynomials modulo z^4 + z + 1, by tables of powers and logarithms of 2.
+#![tactic(auto, using(crate::proofs::TableAnswers::answers))]
+
 ghost use Rattle.std.specs.Prelude.{◌≡◌, ℕ, ◌<◌};
 ghost use Rattle.fields.specs.Residues.{product};
 ghost use Rattle.fields.specs.Shipped.{modulus16, gf16};

@@ -1,5 +1,7 @@
 // Kind 3: polynomials over the integers modulo 3, modulo z^4 + z + 2, worked on by their coefficients. A code has them as its
 // digits in base 3, the constant lowest.
+#![tactic(auto, using(crate::proofs::TernaryAnswers::answers))]
+
 ghost use Rattle.std.specs.Prelude.{◌≡◌, ℕ, ◌<◌, ◌≤◌};
 ghost use Rattle.fields.specs.Residues.{coefficients, product, power};
 ghost use Rattle.fields.specs.Residues as residues;

@@ -1,5 +1,0 @@
-use Rattle.fields.proofs.TableAnswers.{fourth_answers}
-use Rattle.fields.proofs.tables.Gf16Kind.untwist.Goals as goal
-
-pub returns : goal.returns
-returns c = fourth_answers c.args.a c.clipped.result c.fourth.result c.clipped.ensures.value c.clipped.ensures.below c.fourth.ensures
