@@ -9,6 +9,7 @@ use Rattle.fields.specs.Additive.{spread}
 use Rattle.fields.specs.Rings.{ring256, power_code, trace_code}
 use Rattle.fields.proofs.Binary.{sum_xor, opposite_same}
 use Rattle.fields.specs.ResidueKinds.{Additive, powers_additive}
+use Rattle.fields.proofs.BitLoops.{masked, doubled, times_starts, times_goes_on, times_ends}
 use Rattle.fields.proofs.CodeTraces.{trace_product_sum}
 use Rattle.fields.specs.ShippedLaws.{order256, fourths256}
 use Rattle.fields.proofs.Additive.{KeepsXor, images, additive_spread}
@@ -70,4 +71,4 @@ digits_answer r1 r2 r3 r4 a h e1 e2 e3 e4 =
     ∙ sym (ap (λ x. digit 3 x ∷ digit 140 x ∷ digit 69 x ∷ digit 200 x ∷ 0 ∷ 0 ∷ 0 ∷ 0 ∷ []) (clip256 a h))
 
 -- What the check takes for the calls of src/bits.rt.
-pub ruleset answers = (sum_answers, opposite_answers, twist_answers, untwist_answers, digits_answer)
+pub ruleset answers = (masked, doubled, times_starts, times_goes_on, times_ends, sum_answers, opposite_answers, twist_answers, untwist_answers, digits_answer)

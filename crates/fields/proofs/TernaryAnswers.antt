@@ -5,6 +5,7 @@ use Rattle.fields.specs.Residues.{coefficients, code, plus, scale, raise, times,
 use Rattle.fields.specs.Shipped.{modulus81, gf81}
 use Rattle.fields.specs.Rings.{plus_zeros, scale_any, raise_zeros, ring81, power_code}
 use Rattle.fields.specs.ResidueKinds.{cube_is, power_mul}
+use Rattle.fields.proofs.PowerLoops.{cubes_start, cubes_code}
 
 pub sum_answers : {x y r : ℕ} {f g h : List ℕ} (a b : ℕ) → x ≡ clip gf81 a → y ≡ clip gf81 b → f ≡ coefficients 3 4 x → g ≡ coefficients 3 4 y → h ≡ plus 3 f g → r ≡ code 3 h
     → r ≡ sum modulus81 (clip gf81 a) (clip gf81 b)
@@ -53,4 +54,4 @@ untwist_answers {x} {y} {z} a ex h ey ez er =
     er ∙ ap (power modulus81 3) (ez ∙ ap (power modulus81 3) ey ∙ power_mul modulus81 ring81 3 3 x h) ∙ power_mul modulus81 ring81 3 9 x h ∙ ap (power modulus81 27) ex
 
 -- What the check takes for the calls of src/ternary.rt.
-pub ruleset answers = (sum_answers, opposite_answers, product_answers, cube_answers, cube_code, untwist_answers)
+pub ruleset answers = (cubes_start, cubes_code, sum_answers, opposite_answers, product_answers, cube_answers, cube_code, untwist_answers)
