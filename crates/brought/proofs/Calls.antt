@@ -89,3 +89,6 @@ pub digits_answer : (a x x' y y' : ℕ) → a < 256 → x ≡ product modulus256
 unfolding traces
 digits_answer a x x' y y' h ex ex' ey ey' =
     ap₂ (λ u v. u ∷ v ∷ 0 ∷ 0 ∷ 0 ∷ 0 ∷ 0 ∷ 0 ∷ []) (digit 139 a x x' (lit< tt) h ex ex') (digit 69 a y y' (lit< tt) h ey ey')
+
+-- What the check takes for the calls of the kind.
+pub ruleset answers = (times_rule, times_zero, sixteenth_rule, inverse_answers, sum_answers, opposite_answers, digits_answer)
