@@ -1,6 +1,6 @@
 // A kind as a customer brings it: GF(256) over GF(16), by tables of powers and logarithms of 2, and of 16th powers, modulo
 // z^8 + z^4 + z^3 + z^2 + 1. Twist is the 16th power, the fixed elements are a GF(16), and two digits make an element.
-#![tactic(auto)]
+#![tactic(auto, using(crate::proofs::Calls::answers))]
 
 ghost use Rattle.std.specs.Prelude.{◌≡◌};
 ghost use Rattle.fields.specs.Residues.{product, power};
@@ -13,7 +13,7 @@ use tables::{LOGS, POWERS, TWISTS};
 
 mod tables;
 
-#[derive(Clone, Copy)]
+#[derive(Clone, Copy, Debug, Default, PartialEq, Eq)]
 pub struct Gf256Over16;
 
 fn times(a: u8, b: u8) -> u8
@@ -58,9 +58,10 @@ impl Kind for Gf256Over16 {
 
     fn inverse(&self, a: u8) -> Option<u8> {
         if a == 0 {
-            return None;
+            None
+        } else {
+            Some(POWERS[255 - LOGS[a as usize] as usize])
         }
-        Some(POWERS[255 - LOGS[a as usize] as usize])
     }
 
     fn twist(&self, a: u8) -> u8 {

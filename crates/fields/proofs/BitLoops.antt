@@ -1,8 +1,7 @@
 -- The loops over bits: the product by shifts, and additive maps by their images.
-use Rattle.std.proofs.Common.{◌≡◌, ℕ, suc, ◌+◌, ◌-◌, ◌*◌, ◌/◌, ◌%◌, ◌<◌, ◌≤◌, cond, eqb, List, length, get_or, drop, sym, refl, ap, ◌∙◌, subst, ap₂, mod-lt, mod-eq_of_lt, arith, lit<}
+use Rattle.std.proofs.Common.{◌≡◌, ℕ, suc, ◌+◌, ◌-◌, ◌*◌, ◌/◌, ◌%◌, ◌<◌, ◌≤◌, cond, eqb, List, drop, sym, refl, ap, ◌∙◌, subst, ap₂, mod-lt, mod-eq_of_lt, arith, lit<}
 use Rattle.std.specs.Int.Bits.{bit_and, bit_xor, xor_assoc, xor_zero_l, xor_zero_r}
 use Rattle.std.proofs.lemmas.Nat.{and_mask, and_comm}
-use Rattle.std.proofs.lemmas.List.{drop_more, drop_all}
 use Rattle.fields.specs.Residues.{raised, product}
 use Rattle.fields.specs.Shipped.{modulus256}
 use Rattle.fields.specs.Additive.{spread}
@@ -51,16 +50,3 @@ times_ends {a} {b} {i} {s} {x} {y} h w =
 -- After i images the sum and what the other bits choose make the whole.
 pub record Mapping (images : List ℕ) (a i sum y : ℕ) : Type 0 where
   pub whole : bit_xor sum (spread (drop i images) y) ≡ spread images a
-
-pub mapped_starts : (images : List ℕ) (a : ℕ) → Mapping images a 0 0 a
-mapped_starts images a = record { whole = xor_zero_l (spread images a) }
-
-pub mapped_goes_on : {images : List ℕ} {a i s y c : ℕ} → i < length images → Mapping images a i s y → c ≡ cond (eqb (y % 2) 1) (get_or images i 0) 0
-    → Mapping images a (i + 1) (bit_xor s c) (y / 2)
-mapped_goes_on {images} {a} {i} {s} {y} {c} h w e = record {
-  whole = xor_assoc s c (spread (drop (i + 1) images) (y / 2))
-      ∙ ap (bit_xor s) (ap (λ u. bit_xor u (spread (drop (i + 1) images) (y / 2))) e ∙ sym (ap (λ xs. spread xs y) (drop_more images i 0 h))) ∙ w.whole;
-}
-
-pub mapped_ends : {images : List ℕ} {a i s y : ℕ} → length images ≤ i → Mapping images a i s y → s ≡ spread images a
-mapped_ends {images} {a} {i} {s} {y} h w = sym (xor_zero_r s) ∙ sym (ap (λ xs. bit_xor s (spread xs y)) (drop_all i images h)) ∙ w.whole

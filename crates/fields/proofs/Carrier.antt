@@ -1,15 +1,15 @@
 -- The elements of a lawful kind are a field with an automorphism, and what a kind answers, told in elements. What is said of codes and
 -- elements alone is in `Carried`, and comes along under the name of this file.
 use Rattle.std.specs.Prelude.{◌≡◌, ℕ, suc, List, [], ◌∷◌, slice_index, slice_index_or}
-use Rattle.std.proofs.Math.Path.{refl, sym, ap}
-use Rattle.std.proofs.Common.{◌∙◌}
+use Rattle.std.proofs.Math.Path.{refl, ap}
 use Rattle.fields.specs.Field.{mirror}
 use Rattle.fields.specs.Field as field
 use Rattle.fields.specs.Mirror.{mirrored}
 use Rattle.fields.specs.Meaning.{Meaning, Laws, Code, clip}
 use Rattle.fields.specs.Elements.{element, elem, elems, reciprocal_of, ops}
 use Rattle.fields.specs.Carried.{carried, carried_laws}
-pub use Rattle.fields.specs.Carried.{code_elem, same_code, elem_code, named, answers, elems_codes, clips, zero_code, clip_code, counts, is_code, sum_counts, product_counts, opposite_counts, twist_counts, untwist_counts, same_elem, zero_counts, one_counts, reciprocal_code, reciprocal_counts}
+use Rattle.fields.specs.Carried
+pub use Rattle.fields.specs.Carried.{code_elem, same_code, elem_code, named, answers, elems_codes, clips, zero_code, clip_code, counts, is_code, sum_counts, product_counts, opposite_counts, twist_counts, untwist_counts, same_elem, zero_counts, one_counts, reciprocal_code}
 
 module _ (m : Meaning) where
   -- What a kind answers.
@@ -58,10 +58,12 @@ module _ (m : Meaning) where
 module _ {m : Meaning} (l : Laws m) where
   -- Sums and products of codes, told in elements; and codes are equal where their elements are.
   pub sum_elem : (a b : ℕ) → Code m a → Code m b → elem m (m.sum a b) ≡ (ops m).add (elem m a) (elem m b)
-  sum_elem a b ha hb = sums m a b (sym (ap (λ x. m.sum x (clip m b)) (counts l a ha) ∙ ap (m.sum a) (counts l b hb)))
+  unfolding ops carried
+  sum_elem = Carried.sum_elem l
 
   pub product_elem : (a b : ℕ) → Code m a → Code m b → elem m (m.product a b) ≡ (ops m).mul (elem m a) (elem m b)
-  product_elem a b ha hb = multiplies m a b (sym (ap (λ x. m.product x (clip m b)) (counts l a ha) ∙ ap (m.product a) (counts l b hb)))
+  unfolding ops carried
+  product_elem = Carried.product_elem l
 
   pub ops_laws : field.Laws (ops m)
   unfolding ops carried

@@ -1,8 +1,8 @@
 -- The digits of elements: what the laws say of codes, told of elements, and their linearity over fixed elements.
-use Rattle.std.specs.Prelude.{◌≡◌, ℕ, List, [], ◌∷◌, length}
+use Rattle.std.specs.Prelude.{◌≡◌, ℕ, List, length}
 use Rattle.std.proofs.Common.{sym, ap, ◌∙◌, arith}
 use Rattle.std.proofs.lemmas.List.{length-map}
-use Rattle.fields.specs.Lists.{All}
+use Rattle.fields.specs.Lists.{All, all_follow, all_map}
 use Rattle.fields.specs.Field.{plus, scale, comb}
 use Rattle.fields.specs.Field as field
 use Rattle.fields.specs.Meaning.{Meaning, Laws, Code, Fixed, combined}
@@ -28,23 +28,14 @@ module _ {m : Meaning} (l : Laws m) where
       let t = Carrier.twists m x.code (sym (ap m.twist (Carrier.counts l x.code h))) in
       (h, Carrier.answers x (Carrier.counts l (m.twist x.code) (l.twist_code x.code h)) (t ∙ ap (ops m).twist (Carrier.elem_code x) ∙ f))
 
-  fixed_elems : (ds : List ℕ) → All (Fixed m) ds → All (field.Fixed (ops m)) (elems m ds)
-  fixed_elems [] f = tt
-  fixed_elems (d ∷ ds) f = (fixed_elem d f.0, fixed_elems ds f.1)
-
-  fixed_codes : (xs : List (Elem m)) → All (field.Fixed (ops m)) xs → All (Fixed m) (codes xs)
-  fixed_codes [] f = tt
-  fixed_codes (x ∷ xs) f = (fixed_code x f.0, fixed_codes xs f.1)
-
   all_codes : (ds : List ℕ) → All (Fixed m) ds → All (Code m) ds
-  all_codes [] f = tt
-  all_codes (d ∷ ds) f = (f.0.0, all_codes ds f.1)
+  all_codes = all_follow (Fixed m) (Code m) (λ d f. f.0)
 
   lengths : (x : Elem m) → length (digits_of m x) ≡ length (basis_of m)
   lengths x = length-map (m.digits x.code) (elem m) ∙ l.digits_length x.code (Carrier.is_code l x) ∙ sym l.basis_length ∙ sym (length-map m.basis (elem m))
 
   fixes : (x : Elem m) → All (field.Fixed (ops m)) (digits_of m x)
-  fixes x = fixed_elems (m.digits x.code) (l.digits_fixed x.code (Carrier.is_code l x))
+  fixes x = all_map (Fixed m) (field.Fixed (ops m)) (elem m) fixed_elem (m.digits x.code) (l.digits_fixed x.code (Carrier.is_code l x))
 
   gives : (x : Elem m) → comb (ops m) (digits_of m x) (basis_of m) ≡ x
   gives x =
@@ -54,7 +45,7 @@ module _ {m : Meaning} (l : Laws m) where
 
   only : (x : Elem m) (ds : List (Elem m)) → length ds ≡ length (basis_of m) → All (field.Fixed (ops m)) ds → comb (ops m) ds (basis_of m) ≡ x → ds ≡ digits_of m x
   only x ds n f e =
-      let k = fixed_codes ds f in
+      let k = all_map (field.Fixed (ops m)) (Fixed m) (λ x. x.code) fixed_code ds f in
       let given = combined_elem (codes ds) m.basis (all_codes (codes ds) k) l.basis_codes ∙ ap (λ w. comb (ops m) w (basis_of m)) (Carrier.elems_codes ds) ∙ e in
       let c : combined m (codes ds) m.basis ≡ x.code =
       Carrier.answers x (Carrier.counts l _ (Carried.combined_code l (codes ds) m.basis (all_codes (codes ds) k) l.basis_codes)) given in

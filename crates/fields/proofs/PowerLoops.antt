@@ -5,7 +5,7 @@ use Rattle.std.proofs.lemmas.Nat.{pow_pos}
 use Rattle.fields.specs.Residues.{Modulus, degree, product, power}
 use Rattle.fields.specs.Shipped.{modulus256, modulus81}
 use Rattle.fields.specs.Rings.{Ring, ring256, ring81, power_add, power_code}
-use Rattle.fields.specs.ResidueKinds.{power_mul, power_once, power_next}
+use Rattle.fields.specs.ResidueKinds.{power_mul, power_once, square_is}
 
 -- After i rounds x is the power p^i of a, and the other the power p^(i + 1) - 2.
 pub record Powering (q : Modulus) (a i x all : ℕ) : Type 0 where
@@ -27,13 +27,6 @@ module _ (q : Modulus) (r : Ring q (q.base ^ degree q)) where
             ∙ ap (λ k. power q k a) (sums ∙ ap (λ n. q.base * n - 2) up);
       }
 
-  -- The square and the cube by products.
-  pub square_is : (a : ℕ) → a < q.base ^ degree q → product q a a ≡ power q 2 a
-  square_is a h = sym (power_next q r 1 a ∙ ap (product q a) (power_once q r a h))
-
-  pub cube_is : (a : ℕ) → a < q.base ^ degree q → product q a (product q a a) ≡ power q 3 a
-  cube_is a h = ap (product q a) (square_is a h) ∙ sym (power_next q r 2 a)
-
 -- Bytes: the square, and the other times it.
 pub squares_start : (a : ℕ) → a < 256 → Powering modulus256 a 0 a 1
 unfolding power
@@ -45,9 +38,6 @@ squares_go_on {a} {i} {x} {all} {x'} {all'} h w ex ea =
     let hx' : x' < 256 = subst (λ n. n < 256) (sym ex) (ring256.product_code x x hx hx) in
     let p = pow_pos i in
     goes_on modulus256 ring256 h w (ex ∙ square_is modulus256 ring256 x hx) (ea ∙ ap (product modulus256 all) (sym (power_once modulus256 ring256 x' hx'))) (omega arith)
-
-pub squares_end : {a i x all : ℕ} → i ≡ 7 → Powering modulus256 a i x all → all ≡ power modulus256 254 a
-squares_end {a} e w = w.all_is ∙ ap (λ k. power modulus256 (2 * 2 ^ k - 2) a) e
 
 -- Codes in base 3: the cube, and the other times it twice.
 pub cubes_start : (a : ℕ) → a < 81 → Powering modulus81 a 0 a a
@@ -66,6 +56,3 @@ cubes_go_on {a} {i} {x} {all} {x'} {some} {all'} h w ex es ea =
 
 pub cubes_code : {a i x all : ℕ} → a < 81 → Powering modulus81 a i x all → x < 81
 cubes_code {a} {i} h w = subst (λ n. n < 81) (sym w.x_is) (power_code modulus81 81 ring81 (3 ^ i) a h)
-
-pub cubes_end : {a i x all : ℕ} → i ≡ 3 → Powering modulus81 a i x all → all ≡ power modulus81 79 a
-cubes_end {a} e w = w.all_is ∙ ap (λ k. power modulus81 (3 * 3 ^ k - 2) a) e

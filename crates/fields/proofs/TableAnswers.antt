@@ -1,5 +1,5 @@
 -- The tables of kind 2, each with its rule, tested over the whole table; and what its calls answer.
-use Rattle.std.proofs.Common.{◌≡◌, ℕ, ◌+◌, ◌-◌, ◌%◌, ◌<◌, cond, eqb, ltb, ◌⊎◌, List, [], ◌∷◌, ◌++◌, get_or, Some, None, sym, refl, ap, ◌∙◌, ap₂, inl, inr, lit<, eqb→eq}
+use Rattle.std.proofs.Common.{◌≡◌, ℕ, ◌+◌, ◌-◌, ◌%◌, ◌<◌, cond, eqb, ltb, ◌⊎◌, [], ◌∷◌, ◌++◌, get_or, Some, None, sym, refl, ap, ◌∙◌, ap₂, inl, inr, lit<, eqb→eq}
 use Rattle.std.specs.Int.Bits.{bit_xor}
 use Rattle.std.proofs.lemmas.Bool.{cond-true, lt-ltb}
 use Rattle.fields.specs.Meaning.{clip, inverted, digit_row}
@@ -11,6 +11,7 @@ use Rattle.fields.specs.Rings.{ring16}
 use Rattle.fields.specs.Generators.{product_at}
 use Rattle.fields.specs.Tables16.{powers16, logs16}
 use Rattle.fields.specs.ShippedLaws.{generator16}
+use Rattle.fields.specs.declared.tables.TheConstants.{DIGIT_1, DIGIT_2}
 use Rattle.fields.proofs.Binary.{sum_xor, opposite_same}
 
 -- The rule of both tables: the product of elements other than 0 is the power whose exponent is the sum of theirs.
@@ -31,17 +32,11 @@ pub fourth_power : (a : ℕ) → a < 16 → product modulus16 (product modulus16
 unfolding power product
 fourth_power a h = eqb→eq _ _ (at (λ a. eqb (product modulus16 (product modulus16 a a) (product modulus16 a a)) (power modulus16 4 a)) 16 tt a h)
 
-abbrev pub first16 : List ℕ
-first16 = 0 ∷ 1 ∷ 0 ∷ 1 ∷ 6 ∷ 7 ∷ 6 ∷ 7 ∷ 6 ∷ 7 ∷ 6 ∷ 7 ∷ 0 ∷ 1 ∷ 0 ∷ 1 ∷ []
-
-abbrev pub second16 : List ℕ
-second16 = 0 ∷ 0 ∷ 1 ∷ 1 ∷ 1 ∷ 1 ∷ 0 ∷ 0 ∷ 7 ∷ 7 ∷ 6 ∷ 6 ∷ 6 ∷ 6 ∷ 7 ∷ 7 ∷ []
-
 -- The tables of digits have the digits.
-pub digits_rule : (a : ℕ) → a < 16 → get_or first16 a 0 ∷ get_or second16 a 0 ∷ 0 ∷ 0 ∷ 0 ∷ 0 ∷ 0 ∷ 0 ∷ [] ≡ digit_row gf16 a
+pub digits_rule : (a : ℕ) → a < 16 → get_or DIGIT_1 a 0 ∷ get_or DIGIT_2 a 0 ∷ 0 ∷ 0 ∷ 0 ∷ 0 ∷ 0 ∷ 0 ∷ [] ≡ digit_row gf16 a
 unfolding power product sum trace traces
 digits_rule a h =
-    same_is _ _ (at (λ a. same (get_or first16 a 0 ∷ get_or second16 a 0 ∷ 0 ∷ 0 ∷ 0 ∷ 0 ∷ 0 ∷ 0 ∷ []) (digit_row gf16 a)) 16 tt a h)
+    same_is _ _ (at (λ a. same (get_or DIGIT_1 a 0 ∷ get_or DIGIT_2 a 0 ∷ 0 ∷ 0 ∷ 0 ∷ 0 ∷ 0 ∷ 0 ∷ []) (digit_row gf16 a)) 16 tt a h)
 
 -- What the calls answer, where x and y are what the arguments count as.
 pub sum_answers : (a b x y : ℕ) → x ≡ clip gf16 a → y ≡ clip gf16 b → x < 16 → y < 16 → bit_xor x y ≡ sum modulus16 (clip gf16 a) (clip gf16 b)
@@ -58,5 +53,8 @@ inverse_answers a x e h p =
     ap Some (inverse_rule x h p) ∙ sym (cond-true (ltb 0 x) (Some (power modulus16 14 x)) None (lt-ltb 0 x p))
     ∙ ap (λ y. cond (ltb 0 y) (Some (power modulus16 14 y)) None) e
 
-pub digits_answer : (a x : ℕ) → x ≡ clip gf16 a → x < 16 → get_or first16 x 0 ∷ get_or second16 x 0 ∷ 0 ∷ 0 ∷ 0 ∷ 0 ∷ 0 ∷ 0 ∷ [] ≡ digit_row gf16 a
+pub digits_answer : (a x : ℕ) → x ≡ clip gf16 a → x < 16 → get_or DIGIT_1 x 0 ∷ get_or DIGIT_2 x 0 ∷ 0 ∷ 0 ∷ 0 ∷ 0 ∷ 0 ∷ 0 ∷ [] ≡ digit_row gf16 a
 digits_answer a x e h = digits_rule x h ∙ ap (λ y. gf16.digits y ++ 0 ∷ 0 ∷ 0 ∷ 0 ∷ 0 ∷ 0 ∷ []) (cond-true (ltb x 16) x 0 (lt-ltb x 16 h) ∙ e)
+
+-- What the check takes for the calls of src/tables.rt.
+pub ruleset answers = (product_rule, zero_product, sum_answers, opposite_answers, inverse_answers, digits_answer, fourth_answers)

@@ -1,7 +1,8 @@
 -- The codes of a lawful kind, and elements, as far as the laws of kinds rest on them.
 --
 --   carried m    the operations of a kind on its elements, as `ops` of `Elements` has them, under a name of their own: what shows that
---                a kind keeps its laws does not rest on what contracts cite
+--                a kind keeps its laws does not rest on what contracts cite. With `ops` here too, a wrong `ops` would leave laws in
+--                specs unread, where now a proof refuses it.
 use Rattle.std.specs.Prelude.{◌≡◌, ℕ, ◌<◌, cond, ◌≢◌, List, [], ◌∷◌, map, nat_lt}
 use Rattle.std.proofs.Math.Path.{refl, sym, ap}
 use Rattle.std.proofs.Common.{◌∙◌, subst, inl, inr, arith}
@@ -118,9 +119,6 @@ module _ {m : Meaning} (l : Laws m) where
 
   pub reciprocal_code : (a : ℕ) → Code m a → Code m (reciprocal_of m a)
   reciprocal_code a h = cond_both (nat_lt 0 a) (m.inverse a) 0 (λ x. x < m.size) (λ e. l.inverse_code a h) (λ e. zero_code)
-
-  pub reciprocal_counts : {r : ℕ} (a : ℕ) → r ≡ reciprocal_of m (clip m a) → clip m r ≡ r
-  reciprocal_counts {r} a e = counts r (subst (λ x. Code m x) (sym e) (reciprocal_code (clip m a) (clip_code a)))
 
   -- Sums and products of codes, told in elements; and codes are equal where their elements are.
   pub sum_elem : (a b : ℕ) → Code m a → Code m b → elem m (m.sum a b) ≡ (carried m).add (elem m a) (elem m b)

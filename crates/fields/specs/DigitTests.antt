@@ -8,7 +8,9 @@
 use Rattle.std.specs.Prelude.{◌≡◌, ℕ, suc, Bool, true, false, cond, T, List, [], ◌∷◌, length, ◌==◌, nat_lt, refl}
 use Rattle.std.proofs.Common.{sym, ap, ap₂, ◌∙◌, subst, arith, eqb→eq, ltb→lt}
 use Rattle.std.proofs.lemmas.Bool.{eq-eqb, cond-true}
-use Rattle.fields.specs.Lists.{All}
+use Rattle.std.proofs.Math.Bool.{◌||◌}
+use Rattle.std.specs.List.{list_any, list_all as every}
+use Rattle.fields.specs.Lists.{All, all_follow}
 use Rattle.fields.specs.Meaning.{Meaning, Code, Fixed, combined}
 use Rattle.fields.specs.Range.{both, both_left, both_right, below, at}
 
@@ -24,24 +26,15 @@ same_is [] (y ∷ ys) t = absurd t
 same_is (x ∷ xs) [] t = absurd t
 same_is (x ∷ xs) (y ∷ ys) t = ap₂ (λ z zs. z ∷ zs) (eqb→eq x y (both_left (x == y) (same xs ys) t)) (same_is xs ys (both_right (x == y) (same xs ys) t))
 
-abbrev pub either : Bool → Bool → Bool
-either true b = true
-either false b = b
-
 abbrev pub member : ℕ → List ℕ → Bool
-member d [] = false
-member d (x ∷ xs) = either (d == x) (member d xs)
-
-abbrev pub every : (ℕ → Bool) → List ℕ → Bool
-every f [] = true
-every f (x ∷ xs) = both (f x) (every f xs)
+member d = list_any (λ x. d == x)
 
 -- What passes at each number of a list passes at a member.
 at_member : (f : ℕ → Bool) (xs : List ℕ) → T (every f xs) → (d : ℕ) → T (member d xs) → T (f d)
 at_member f [] t d h = absurd h
 at_member f (x ∷ xs) t d h = choose (d == x) refl (at_member f xs (both_right (f x) (every f xs) t) d) h
   where
-    choose : (b : Bool) → (d == x) ≡ b → (T (member d xs) → T (f d)) → T (either b (member d xs)) → T (f d)
+    choose : (b : Bool) → (d == x) ≡ b → (T (member d xs) → T (f d)) → T (b || member d xs) → T (f d)
     choose true e later k = subst (λ y. T (f y)) (sym (eqb→eq d x (subst T (sym e) tt))) (both_left (f x) (every f xs) t)
     choose false e later k = later k
 
@@ -90,10 +83,6 @@ module _ (m : Meaning) (fixed : List ℕ) where
     listed : (d : ℕ) → Fixed m d → T (member d fixed)
     listed d f = subst T (cond-true (m.twist d == d) (member d fixed) true (eq-eqb _ _ f.1)) (at (λ d. cond (m.twist d == d) (member d fixed) true) m.size t2 d f.0)
 
-    all_listed : (ds : List ℕ) → All (Fixed m) ds → All (λ d. T (member d fixed)) ds
-    all_listed [] f = tt
-    all_listed (d ∷ ds) f = (listed d f.0, all_listed ds f.1)
-
     at_code : (a : ℕ) → Code m a → T (both (every (λ d. member d fixed) (m.digits a)) (combined m (m.digits a) m.basis == a))
     at_code a h = at (λ a. both (every (λ d. member d fixed) (m.digits a)) (combined m (m.digits a) m.basis == a)) m.size t3 a h
 
@@ -102,5 +91,5 @@ module _ (m : Meaning) (fixed : List ℕ) where
       digits_fixed = λ a h. fixes (m.digits a) (both_left (every (λ d. member d fixed) (m.digits a)) (combined m (m.digits a) m.basis == a) (at_code a h));
       digits_give = λ a h. eqb→eq _ _ (both_right (every (λ d. member d fixed) (m.digits a)) (combined m (m.digits a) m.basis == a) (at_code a h));
       digits_only = λ a ds h n f e.
-          same_is ds (m.digits (combined m ds m.basis)) (at_rows m.width fixed (λ ds. same ds (m.digits (combined m ds m.basis))) t4 ds n (all_listed ds f)) ∙ ap m.digits e;
+          same_is ds (m.digits (combined m ds m.basis)) (at_rows m.width fixed (λ ds. same ds (m.digits (combined m ds m.basis))) t4 ds n (all_follow (Fixed m) (λ d. T (member d fixed)) listed ds f)) ∙ ap m.digits e;
     }

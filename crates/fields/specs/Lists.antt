@@ -1,6 +1,13 @@
--- What holds of each element of a list.
-use Rattle.std.specs.Prelude.{List, [], ◌∷◌}
+-- What holds of each element of a list, by recursion on the list: the library's, under a short name.
+use Rattle.std.specs.Prelude.{List, [], ◌∷◌, map}
+pub use Rattle.std.specs.List.{AllByRecursion as All}
 
-abbrev pub All : {A : Type 0} → (A → Type 0) → List A → Type 0
-All P [] = Unit {0}
-All P (x ∷ xs) = P x × All P xs
+-- What P gives at each element holds of all,
+pub all_follow : {A : Type 0} (P Q : A → Type 0) → ((x : A) → P x → Q x) → (xs : List A) → All P xs → All Q xs
+all_follow P Q h [] p = tt
+all_follow P Q h (x ∷ xs) p = (h x p.0, all_follow P Q h xs p.1)
+
+-- and what it gives at the image of each holds of all the images.
+pub all_map : {A B : Type 0} (P : A → Type 0) (Q : B → Type 0) (f : A → B) → ((x : A) → P x → Q (f x)) → (xs : List A) → All P xs → All Q (map f xs)
+all_map P Q f h [] p = tt
+all_map P Q f h (x ∷ xs) p = (h x p.0, all_map P Q f h xs p.1)

@@ -1,10 +1,7 @@
 -- A rule over all codes below n, one, two or three at a time, proved by one test that antt computes.
 use Rattle.std.specs.Prelude.{◌≡◌, ℕ, zero, suc, ◌<◌, Bool, true, false, T, ◌⊎◌}
+pub use Rattle.std.proofs.Math.Bool.{◌&&◌ as both}
 use Rattle.std.proofs.Common.{subst, sym, inl, inr, not-suc-le-zero, arith}
-
-abbrev pub both : Bool → Bool → Bool
-both true b = b
-both false b = false
 
 pub both_left : (a b : Bool) → T (both a b) → T a
 both_left true b t = tt

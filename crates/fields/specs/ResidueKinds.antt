@@ -7,10 +7,10 @@ use Rattle.std.proofs.lemmas.Bool.{cases_lt}
 use Rattle.fields.specs.Lists.{All}
 use Rattle.fields.specs.Meaning.{Meaning, Laws, Fixed, combined}
 use Rattle.fields.specs.Residues.{Modulus, degree, sum, product, power, residues}
-use Rattle.fields.specs.Elements.{elem}
+use Rattle.fields.specs.Elements.{Elem, elem}
+use Rattle.fields.specs.Carried.{carried}
 use Rattle.fields.specs.Rings.{Ring, power_code, power_add, power_product}
 use Rattle.fields.specs.DigitTests.{DigitLaws}
-use Rattle.fields.specs.Carried.{carried}
 use Rattle.fields.specs.Carried
 use Rattle.fields.specs.Frobenius
 
@@ -28,6 +28,13 @@ module _ (q : Modulus) (r : Ring q (size q)) where
   pub power_next : (n a : ℕ) → power q (suc n) a ≡ product q a (power q n a)
   unfolding power
   power_next n a = refl
+
+  -- The square and the cube by products.
+  pub square_is : (a : ℕ) → a < size q → product q a a ≡ power q 2 a
+  square_is a h = sym (power_next 1 a ∙ ap (product q a) (power_once a h))
+
+  pub cube_is : (a : ℕ) → a < size q → product q a (product q a a) ≡ power q 3 a
+  cube_is a h = ap (product q a) (square_is a h) ∙ sym (power_next 2 a)
 
   -- A power of a power.
   pub power_mul : (m n a : ℕ) → a < size q → power q m (power q n a) ≡ power q (n * m) a
@@ -134,40 +141,39 @@ module _ (q : Modulus) (r : Ring q (size q)) where
       abbrev pub Additive : ℕ → Type 0
       Additive t = (a b : ℕ) → a < size q → b < size q → power q t (sum q a b) ≡ sum q (power q t a) (power q t b)
 
+      -- It does where a map of elements that keeps sums stands for it.
+      additive_from : (t : ℕ) (τ : Elem plain → Elem plain) → ((a : ℕ) → a < size q → elem plain (power q t a) ≡ τ (elem plain a)) → ((x y : Elem plain) → τ ((carried plain).add x y) ≡ (carried plain).add (τ x) (τ y)) → Additive t
+      additive_from t τ stands adds a b ha hb =
+          let hs = r.sum_code a b ha hb in
+          let pa = power_code q (size q) r t a ha in
+          let pb = power_code q (size q) r t b hb in
+          Carried.same_elem plain_laws _ _ (power_code q (size q) r t (sum q a b) hs) (r.sum_code _ _ pa pb)
+          (stands (sum q a b) hs ∙ ap τ (Carried.sum_elem plain_laws a b ha hb) ∙ adds (elem plain a) (elem plain b)
+          ∙ sym (Carried.sum_elem plain_laws _ _ pa pb ∙ ap₂ (carried plain).add (stands a ha) (stands b hb)))
+
+      -- The square and the cube of an element, and 1 + 1.
+      square_elem : (a : ℕ) → a < size q → elem plain (power q 2 a) ≡ (carried plain).mul (elem plain a) (elem plain a)
+      square_elem a h = ap (elem plain) (sym (square_is a h)) ∙ Carried.product_elem plain_laws a a h h
+
+      cube_elem : (a : ℕ) → a < size q → elem plain (power q 3 a) ≡ (carried plain).mul (elem plain a) ((carried plain).mul (elem plain a) (elem plain a))
+      cube_elem a h =
+          ap (elem plain) (power_next 2 a) ∙ Carried.product_elem plain_laws a (power q 2 a) h (power_code q (size q) r 2 a h) ∙ ap ((carried plain).mul (elem plain a)) (square_elem a h)
+
+      two_elem : (carried plain).add (carried plain).one (carried plain).one ≡ elem plain (sum q 1 1)
+      two_elem = sym (Carried.sum_elem plain_laws 1 1 r.one_code r.one_code ∙ ap₂ (carried plain).add (Carried.one_is plain) (Carried.one_is plain))
+
       -- Squares do where 1 + 1 is 0.
       pub squares_additive : sum q 1 1 ≡ 0 → Additive 2
-      squares_additive two a b ha hb =
-          let l = plain_laws in
-          let hs = r.sum_code a b ha hb in
-          let o = Carried.carried_laws l in
-          let sq : (x : ℕ) → x < size q → power q 2 x ≡ product q x x = λ x h. power_next 1 x ∙ ap (product q x) (power_once x h) in
-          let e2 : (carried plain).add (carried plain).one (carried plain).one ≡ (carried plain).zero =
-          ap₂ (carried plain).add (sym (Carried.one_is plain)) (sym (Carried.one_is plain)) ∙ sym (Carried.sum_elem l 1 1 r.one_code r.one_code) ∙ ap (elem plain) two ∙ Carried.zero_is plain in
-          sq (sum q a b) hs
-          ∙ Carried.same_elem l (product q (sum q a b) (sum q a b)) (sum q (product q a a) (product q b b)) (r.product_code _ _ hs hs) (r.sum_code _ _ (r.product_code a a ha ha) (r.product_code b b hb hb))
-          (Carried.product_elem l (sum q a b) (sum q a b) hs hs ∙ ap (λ x. (carried plain).mul x x) (Carried.sum_elem l a b ha hb) ∙ Frobenius.square_add o e2 (elem plain a) (elem plain b)
-          ∙ sym (Carried.sum_elem l (product q a a) (product q b b) (r.product_code a a ha ha) (r.product_code b b hb hb) ∙ ap₂ (carried plain).add (Carried.product_elem l a a ha ha) (Carried.product_elem l b b hb hb)))
-          ∙ sym (ap₂ (sum q) (sq a ha) (sq b hb))
+      squares_additive two =
+          additive_from 2 (λ x. (carried plain).mul x x) square_elem (Frobenius.square_add (Carried.carried_laws plain_laws) (two_elem ∙ ap (elem plain) two ∙ Carried.zero_is plain))
 
       -- Cubes do where 1 + (1 + 1) is 0.
       pub cubes_additive : sum q 1 (sum q 1 1) ≡ 0 → Additive 3
-      cubes_additive three a b ha hb =
-          let l = plain_laws in
-          let o = Carried.carried_laws l in
-          let hs = r.sum_code a b ha hb in
-          let h2 = r.sum_code 1 1 r.one_code r.one_code in
-          let cube : (x : ℕ) → x < size q → power q 3 x ≡ product q x (product q x x) = λ x h. power_next 2 x ∙ ap (product q x) (power_next 1 x ∙ ap (product q x) (power_once x h)) in
-          let pc : (x : ℕ) → x < size q → product q x (product q x x) < size q = λ x h. r.product_code _ _ h (r.product_code _ _ h h) in
-          let pe : (x : ℕ) → x < size q → elem plain (product q x (product q x x)) ≡ (carried plain).mul (elem plain x) ((carried plain).mul (elem plain x) (elem plain x)) =
-          λ x h. Carried.product_elem l x (product q x x) h (r.product_code _ _ h h) ∙ ap ((carried plain).mul (elem plain x)) (Carried.product_elem l x x h h) in
-          let e3 : (carried plain).add (carried plain).one ((carried plain).add (carried plain).one (carried plain).one) ≡ (carried plain).zero =
-          ap₂ (λ x y. (carried plain).add x ((carried plain).add y y)) (sym (Carried.one_is plain)) (sym (Carried.one_is plain))
-          ∙ ap ((carried plain).add (elem plain 1)) (sym (Carried.sum_elem l 1 1 r.one_code r.one_code)) ∙ sym (Carried.sum_elem l 1 (sum q 1 1) r.one_code h2) ∙ ap (elem plain) three ∙ Carried.zero_is plain in
-          cube (sum q a b) hs
-          ∙ Carried.same_elem l (product q (sum q a b) (product q (sum q a b) (sum q a b))) (sum q (product q a (product q a a)) (product q b (product q b b))) (pc _ hs) (r.sum_code _ _ (pc a ha) (pc b hb))
-          (pe (sum q a b) hs ∙ ap (λ x. (carried plain).mul x ((carried plain).mul x x)) (Carried.sum_elem l a b ha hb) ∙ Frobenius.cube_add o e3 (elem plain a) (elem plain b)
-          ∙ sym (Carried.sum_elem l _ _ (pc a ha) (pc b hb) ∙ ap₂ (carried plain).add (pe a ha) (pe b hb)))
-          ∙ sym (ap₂ (sum q) (cube a ha) (cube b hb))
+      cubes_additive three =
+          let none : (carried plain).add (carried plain).one ((carried plain).add (carried plain).one (carried plain).one) ≡ (carried plain).zero =
+          ap₂ (carried plain).add (sym (Carried.one_is plain)) two_elem ∙ sym (Carried.sum_elem plain_laws 1 (sum q 1 1) r.one_code (r.sum_code 1 1 r.one_code r.one_code))
+          ∙ ap (elem plain) three ∙ Carried.zero_is plain in
+          additive_from 3 (λ x. (carried plain).mul x ((carried plain).mul x x)) cube_elem (Frobenius.cube_add (Carried.carried_laws plain_laws) none)
 
       -- A power of a power does where both do.
       pub powers_additive : (s t : ℕ) → Additive s → Additive t → Additive (s * t)

@@ -12,7 +12,7 @@ use Rattle.std.proofs.Math.Path.{sym, ap}
 use Rattle.std.proofs.Common.{ap₂, ◌∙◌, subst, append-nil, add-zero, zero-add, suc-add, add_comm, add_assoc, mul-zero, zero-mul, mul-one, one-mul, mul_comm, mul_assoc, mul-add, add-mul, mod-lt, mod-eq_of_lt, div-add-mod', div-lt_iff_lt-mul, pow-suc, add-sub_of_le, add-suc, le_of_lt, lt_of_lt_of_le, lit<}
 use Rattle.std.proofs.Math.Nat.{zero-mod, zero-div, mod-add-mod, add-mod-mod, add-mod, mul-mod_right, mul-add-mod_self_right, div-eq_of_lt, pow-zero, pow-le-pow_right}
 use Rattle.std.proofs.Math.Arith.{digits_lt, digits_div, digits_mod, lt-one}
-use Rattle.fields.specs.Residues.{coefficients, code, plus, scale, moved, top, Modulus, degree, raise, times, polynomial, sum, opposite, product, power}
+use Rattle.fields.specs.Residues.{coefficients, code, plus, scale, moved, top, Modulus, degree, raise, times, polynomial, sum, opposite, product, power, trace}
 use Rattle.fields.specs.Shipped.{modulus256, modulus16, modulus81}
 
 pub data Proper (p : ℕ) : ℕ → List ℕ → Type 0 where
@@ -464,6 +464,12 @@ module _ (q : Modulus) (size : ℕ) (r : Ring q size) where
   unfolding power
   power_code zero a h = r.one_code
   power_code (suc n) a h = r.product_code a (power q n a) h (power_code n a h)
+
+  -- And so is a trace of one.
+  pub trace_code : (t k a : ℕ) → a < size → trace q t k a < size
+  unfolding trace
+  trace_code t zero a h = lt_of_lt_of_le (lit< tt) (le_of_lt r.one_code)
+  trace_code t (suc k) a h = r.sum_code a (trace q t k (power q t a)) h (trace_code t k (power q t a) (power_code t a h))
 
   -- The product of two powers of a.
   pub power_add : (m n a : ℕ) → a < size → product q (power q m a) (power q n a) ≡ power q (m + n) a

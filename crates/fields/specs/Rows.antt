@@ -1,7 +1,7 @@
 -- Sums, scalings and combinations of rows of elements.
 use Rattle.std.specs.Prelude.{◌≡◌, suc, max, List, [], ◌∷◌, map, length}
 use Rattle.std.proofs.Common.{sym, ◌∙◌, ap, arith}
-use Rattle.fields.specs.Lists.{All}
+use Rattle.fields.specs.Lists.{All, all_map}
 use Rattle.fields.specs.Field.{Ops, Laws, Fixed, plus, comb}
 use Rattle.fields.specs.Basics
 use Rattle.fields.specs.Basics.{ring}
@@ -34,5 +34,4 @@ module _ {F : Type 0} {o : Ops F} (l : Laws o) where
   fixed_plus (c ∷ cs) (d ∷ ds) h k = (Basics.fixed_add l c d h.0 k.0, fixed_plus cs ds h.1 k.1)
 
   pub fixed_scaled : (d : F) (cs : List F) → Fixed o d → All (Fixed o) cs → All (Fixed o) (map (o.mul d) cs)
-  fixed_scaled d [] p h = tt
-  fixed_scaled d (c ∷ cs) p h = (Basics.fixed_mul l d c p h.0, fixed_scaled d cs p h.1)
+  fixed_scaled d cs p h = all_map (Fixed o) (Fixed o) (o.mul d) (λ c q. Basics.fixed_mul l d c p q) cs h

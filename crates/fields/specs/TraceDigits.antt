@@ -10,17 +10,17 @@ use Rattle.std.proofs.Common.{sym, ap₂, ◌∙◌, subst, pow-suc, mul_comm}
 use Rattle.std.proofs.Math.Path.{ap}
 use Rattle.std.proofs.Math.Nat.{pow-zero}
 use Rattle.std.proofs.lemmas.List.{length-map}
-use Rattle.fields.specs.Lists.{All}
+use Rattle.fields.specs.Lists.{All, all_follow, all_map}
 use Rattle.fields.specs.Field.{comb}
 use Rattle.fields.specs.Meaning.{Meaning, Laws, Code, combination}
 use Rattle.fields.specs.Residues.{Modulus, sum, product, power, trace, traces, residues}
 use Rattle.fields.specs.Elements.{Elem, elem, elems, codes}
-use Rattle.fields.specs.Rings.{Ring, power_code, power_product}
+use Rattle.fields.specs.Carried.{carried}
+use Rattle.fields.specs.Rings.{Ring, power_code, power_product, trace_code}
 use Rattle.fields.specs.DigitTests.{DigitLaws}
 use Rattle.fields.specs.ResidueKinds.{size, Ordered, Additive, power_mul, power_whole, power_once, plain, plain_laws}
 use Rattle.fields.specs.Traces.{again, tr, Left, identity, Kills}
 use Rattle.fields.specs.Traces
-use Rattle.fields.specs.Carried.{carried}
 use Rattle.fields.specs.Carried
 
 abbrev pub trace_table : Modulus → ℕ → ℕ → List ℕ → List ℕ → List (List ℕ)
@@ -42,11 +42,6 @@ identity_map {A} {B} f z u (suc n) = ap₂ (λ x xs. x ∷ xs) (ap (λ xs. f u �
     past : (rows : List (List A)) → map (map f) (map (λ row. z ∷ row) rows) ≡ map (λ row. f z ∷ row) (map (map f) rows)
     past [] = refl
     past (row ∷ rows) = ap (λ xs. (f z ∷ map f row) ∷ xs) (past rows)
-
--- What holds of the image of each that P holds of, holds of all the images.
-all_map : {A B : Type 0} (P : A → Type 0) (Q : B → Type 0) (f : A → B) → ((x : A) → P x → Q (f x)) → (xs : List A) → All P xs → All Q (map f xs)
-all_map P Q f h [] p = tt
-all_map P Q f h (x ∷ xs) p = (h x p.0, all_map P Q f h xs p.1)
 
 module _ (q : Modulus) (r : Ring q (size q)) (order : Ordered q r) (small : size q ≤ 256) (t : ℕ) (additive : Additive q r order small t) where
   abbrev m : Meaning
@@ -91,18 +86,12 @@ module _ (q : Modulus) (r : Ring q (size q)) (order : Ordered q r) (small : size
       ap (again τ k) (τ_elem a h) ∙ again_elem k (power q t a) (raised a h)
       ∙ ap (elem m) (power_mul q r (t ^ k) t a h ∙ ap (λ n. power q n a) (mul_comm t (t ^ k) ∙ sym (pow-suc t k)))
 
-  -- A trace of a code is a code,
-  trace_code : (k a : ℕ) → a < size q → trace q t k a < size q
-  unfolding trace
-  trace_code zero a h = Carried.zero_code l
-  trace_code (suc k) a h = r.sum_code a (trace q t k (power q t a)) h (trace_code k (power q t a) (raised a h))
-
-  -- and its element is the trace of the element.
+  -- The element of a trace of a code is the trace of its element.
   trace_elem : (k a : ℕ) → a < size q → elem m (trace q t k a) ≡ tr (carried m) τ k (elem m a)
   unfolding trace
   trace_elem zero a h = Carried.zero_is m
   trace_elem (suc k) a h =
-      Carried.sum_elem l a (trace q t k (power q t a)) h (trace_code k (power q t a) (raised a h))
+      Carried.sum_elem l a (trace q t k (power q t a)) h (trace_code q (size q) r t k (power q t a) (raised a h))
       ∙ ap ((carried m).add (elem m a)) (trace_elem k (power q t a) (raised a h) ∙ ap (tr (carried m) τ k) (sym (τ_elem a h)))
 
   -- The same of the trace of c a.
@@ -130,7 +119,7 @@ module _ (q : Modulus) (r : Ring q (size q)) (order : Ordered q r) (small : size
   -- Where there are t^k codes, the t-th power leaves a trace of k terms.
   trace_kept : (k : ℕ) → t ^ k ≡ size q → (a : ℕ) → a < size q → power q t (trace q t k a) ≡ trace q t k a
   trace_kept k whole a h =
-      let c = trace_code k a h in
+      let c = trace_code q (size q) r t k a h in
       let back : again τ k (elem m a) ≡ elem m a = again_elem k a h ∙ ap (elem m) (ap (λ n. power q n a) whole ∙ power_whole q r order a h) in
       Carried.same_elem l (power q t (trace q t k a)) (trace q t k a) (raised _ c) c
       (sym (τ_elem (trace q t k a) c) ∙ ap τ (trace_elem k a h) ∙ Traces.tr_left (Carried.carried_laws l) τ adds muls k (elem m a) back ∙ sym (trace_elem k a h))
@@ -140,8 +129,7 @@ module _ (q : Modulus) (r : Ring q (size q)) (order : Ordered q r) (small : size
 
   -- Kept codes are codes.
   kept_codes : (ds : List ℕ) → All Kept ds → All (Code m) ds
-  kept_codes [] p = tt
-  kept_codes (d ∷ ds) p = (p.0.0, kept_codes ds p.1)
+  kept_codes = all_follow Kept (Code m) (λ d g. g.0)
 
   module _ (cs bs : List ℕ) (cs-codes : All (Code m) cs) (bs-codes : All (Code m) bs) where
     -- The first table, told in elements: the unit rows.
@@ -176,7 +164,7 @@ module _ (q : Modulus) (r : Ring q (size q)) (order : Ordered q r) (small : size
       traces_kept a h = subst (All Kept) (sym (traces_are a)) (all_map (Code m) Kept (λ c. trace q t (suc k) (product q c a)) kept cs cs-codes)
         where
           kept : (c : ℕ) → c < size q → Kept (trace q t (suc k) (product q c a))
-          kept c hc = let p = r.product_code c a hc h in (trace_code (suc k) (product q c a) p, trace_kept (suc k) whole (product q c a) p)
+          kept c hc = let p = r.product_code c a hc h in (trace_code q (size q) r t (suc k) (product q c a) p, trace_kept (suc k) whole (product q c a) p)
 
       -- and their elements the traces of elements.
       traces_elems : (a : ℕ) → a < size q → elems m (traces q t cs a) ≡ map (λ x. tr (carried m) τ (suc k) ((carried m).mul x (elem m a))) (elems m cs)

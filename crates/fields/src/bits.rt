@@ -1,5 +1,7 @@
 // Kind 1: bit polynomials modulo z^8 + z^4 + z^3 + z^2 + 1; bit 0 is the constant. Every operation is shifts, masks and
 // exclusive or, without a branch; the inverse alone asks whether its argument is 0.
+#![tactic(auto, using(crate::proofs::BitAnswers::answers))]
+
 ghost use Rattle.std.specs.Prelude.{◌≡◌, ℕ, ◌%◌, if◌then◌else◌, nat_eq};
 ghost use Rattle.fields.specs.Residues.{raised, product, power};
 ghost use Rattle.fields.specs.Shipped.{modulus256, gf256};
@@ -8,7 +10,7 @@ ghost use Rattle.fields.specs.ShippedLaws.{gf256_laws};
 
 use super::Kind;
 
-#[derive(Clone, Copy)]
+#[derive(Clone, Copy, Debug, Default, PartialEq, Eq)]
 pub struct Gf256;
 
 // What additive maps make of the bits 1, 2, 4 and so on: the fourth power, the 64th, and the four digits.
@@ -44,7 +46,7 @@ fn times(a: u8, b: u8) -> u8
     let mut sum = 0u8;
     let mut x = a;
     let mut y = b;
-    for _i in 0..8usize {
+    for _ in 0..8u8 {
         sum ^= chosen(x, y);
         x = double(x);
         y >>= 1;
@@ -71,7 +73,7 @@ fn reciprocal(a: u8) -> u8
 {
     let mut x = a;
     let mut all = 1;
-    for _i in 0..7usize {
+    for _ in 0..7u8 {
         x = times(x, x);
         all = times(all, x);
     }

@@ -1,22 +1,13 @@
 // Kind 4: the integers modulo 13.
-ghost use Rattle.std.specs.Prelude.{◌≡◌, ℕ, ◌%◌, ◌<◌};
-ghost use Rattle.fields.specs.Meaning.{clip};
 ghost use Rattle.fields.specs.Shipped.{mod13};
 ghost use Rattle.fields.specs.Mod13Laws.{mod13_laws};
 
-use super::Kind;
+use super::{Kind, clipped};
 
-#[derive(Clone, Copy)]
+#[derive(Clone, Copy, Debug, Default, PartialEq, Eq)]
 pub struct Mod13;
 
 const INVERSES: [u8; 13] = [0, 1, 7, 9, 10, 8, 11, 2, 5, 3, 4, 6, 12];
-
-fn clip13(a: u8) -> u8
-    ensures value { result ≡ clip mod13 a }
-    ensures below { result < 13 }
-{
-    if a < 13 { a } else { 0 }
-}
 
 impl Kind for Mod13 {
     ghost meaning = { λ _. mod13 };
@@ -32,31 +23,32 @@ impl Kind for Mod13 {
     }
 
     fn sum(&self, a: u8, b: u8) -> u8 {
-        (clip13(a) + clip13(b)) % 13
+        (clipped::<13>(a) + clipped::<13>(b)) % 13
     }
 
     fn opposite(&self, a: u8) -> u8 {
-        (13 - clip13(a)) % 13
+        (13 - clipped::<13>(a)) % 13
     }
 
     fn product(&self, a: u8, b: u8) -> u8 {
-        (clip13(a) * clip13(b)) % 13
+        (clipped::<13>(a) * clipped::<13>(b)) % 13
     }
 
     fn inverse(&self, a: u8) -> Option<u8> {
-        let b = clip13(a);
+        let b = clipped::<13>(a);
         if b == 0 {
-            return None;
+            None
+        } else {
+            Some(INVERSES[b as usize])
         }
-        Some(INVERSES[b as usize])
     }
 
     fn twist(&self, a: u8) -> u8 {
-        clip13(a)
+        clipped::<13>(a)
     }
 
     fn untwist(&self, a: u8) -> u8 {
-        clip13(a)
+        clipped::<13>(a)
     }
 
     fn width(&self) -> usize {
@@ -68,6 +60,6 @@ impl Kind for Mod13 {
     }
 
     fn digits(&self, a: u8) -> [u8; 8] {
-        [clip13(a), 0, 0, 0, 0, 0, 0, 0]
+        [clipped::<13>(a), 0, 0, 0, 0, 0, 0, 0]
     }
 }

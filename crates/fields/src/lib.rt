@@ -4,7 +4,7 @@
 // What a kind means, and the laws that it owes, are in specs/Meaning.antt; a kind that breaks one cannot be built.
 #![tactic(auto)]
 
-ghost use Rattle.std.specs.Prelude.{◌≡◌, ℕ};
+ghost use Rattle.std.specs.Prelude.{◌≡◌, ℕ, ◌<◌, if◌then◌else◌, nat_lt};
 ghost use Rattle.fields.specs.Meaning.{Meaning, Laws, clip, inverted};
 ghost use Rattle.fields.specs.Meaning.{basis_at, digit_row};
 ghost use Rattle.fields.specs.Elements.{reciprocal_of, DigitsLinear, ops, basis_of, digits_of};
@@ -19,7 +19,7 @@ mod trits;
 
 pub use bits::Gf256;
 pub use integers::Mod13;
-pub use mirrors::Mirror;
+pub use mirrors::{Mirror, across};
 pub use tables::Gf16;
 pub use ternary::Gf81;
 
@@ -77,14 +77,20 @@ pub fn code<K: Kind>(kind: &K, a: u8) -> u8
     if (a as u16) < kind.size() { a } else { 0 }
 }
 
+// The same where the number of elements is known as the program is compiled.
+fn clipped<const SIZE: u8>(a: u8) -> u8
+    requires { 0 < SIZE }
+    ensures value { result ≡ (if nat_lt a SIZE then a else 0) }
+    ensures below { result < SIZE }
+{
+    if a < SIZE { a } else { 0 }
+}
+
 // The inverse, and 0 at 0.
 pub fn reciprocal<K: Kind>(kind: &K, a: u8) -> u8
     ensures { let m = K.meaning kind.now in result ≡ reciprocal_of m (clip m a) }
 {
-    match kind.inverse(a) {
-        Some(b) => b,
-        None => 0,
-    }
+    kind.inverse(a).unwrap_or(0)
 }
 
 // The elements of every kind are a field with an automorphism: a theorem, which this contract asks for.

@@ -1,11 +1,22 @@
 // The mirror of a kind: twist and untwist exchanged.
 ghost use Rattle.std.specs.Prelude.{◌≡◌};
-ghost use Rattle.fields.specs.Mirror.{mirrored};
+ghost use Rattle.fields.specs.Mirror.{across as across_of, mirrored};
 ghost use Rattle.fields.specs.MirrorLaws.{mirror_laws};
 
 use super::Kind;
 
-#[derive(Clone, Copy)]
+// The number of the mirror of a kind: 128 more, or 128 less where it is 128 or more.
+pub fn across(number: u8) -> u8
+    ensures { result ≡ across_of number }
+{
+    if number < 128 {
+        number + 128
+    } else {
+        number - 128
+    }
+}
+
+#[derive(Clone, Copy, Debug, Default, PartialEq, Eq)]
 pub struct Mirror<K> {
     pub inner: K,
 }
@@ -15,10 +26,8 @@ impl<K: Kind> Kind for Mirror<K> {
 
     ghost lawful = { λ k. mirror_laws _ (K.Kind.lawful k.inner) };
 
-    // The number below with 128 added, or taken off where it is 128 or more.
     fn number(&self) -> u8 {
-        let n = self.inner.number();
-        if n < 128 { n + 128 } else { n - 128 }
+        across(self.inner.number())
     }
 
     fn size(&self) -> u16 {

@@ -1,13 +1,14 @@
 // Kind 2: bit polynomials modulo z^4 + z + 1, by tables of powers and logarithms of 2.
+#![tactic(auto, using(crate::proofs::TableAnswers::answers))]
+
 ghost use Rattle.std.specs.Prelude.{◌≡◌, ℕ, ◌<◌};
-ghost use Rattle.fields.specs.Meaning.{clip};
 ghost use Rattle.fields.specs.Residues.{product};
 ghost use Rattle.fields.specs.Shipped.{modulus16, gf16};
 ghost use Rattle.fields.specs.ShippedLaws.{gf16_laws};
 
-use super::Kind;
+use super::{Kind, clipped};
 
-#[derive(Clone, Copy)]
+#[derive(Clone, Copy, Debug, Default, PartialEq, Eq)]
 pub struct Gf16;
 
 // The powers of 2, and the exponents; 0 has none, and stands as 0.
@@ -19,13 +20,6 @@ const LOGS: [u8; 16] = [0, 0, 1, 4, 2, 8, 5, 10, 3, 14, 9, 7, 6, 13, 11, 12];
 const DIGIT_1: [u8; 16] = [0, 1, 0, 1, 6, 7, 6, 7, 6, 7, 6, 7, 0, 1, 0, 1];
 
 const DIGIT_2: [u8; 16] = [0, 0, 1, 1, 1, 1, 0, 0, 7, 7, 6, 6, 6, 6, 7, 7];
-
-fn clip16(a: u8) -> u8
-    ensures value { result ≡ clip gf16 a }
-    ensures below { result < 16 }
-{
-    if a < 16 { a } else { 0 }
-}
 
 fn times(a: u8, b: u8) -> u8
     requires a { a < 16 }
@@ -62,31 +56,32 @@ impl Kind for Gf16 {
     }
 
     fn sum(&self, a: u8, b: u8) -> u8 {
-        clip16(a) ^ clip16(b)
+        clipped::<16>(a) ^ clipped::<16>(b)
     }
 
     fn opposite(&self, a: u8) -> u8 {
-        clip16(a)
+        clipped::<16>(a)
     }
 
     fn product(&self, a: u8, b: u8) -> u8 {
-        times(clip16(a), clip16(b))
+        times(clipped::<16>(a), clipped::<16>(b))
     }
 
     fn inverse(&self, a: u8) -> Option<u8> {
-        let x = clip16(a);
+        let x = clipped::<16>(a);
         if x == 0 {
-            return None;
+            None
+        } else {
+            Some(POWERS[(15 - LOGS[x as usize] as usize) % 15])
         }
-        Some(POWERS[(15 - LOGS[x as usize] as usize) % 15])
     }
 
     fn twist(&self, a: u8) -> u8 {
-        fourth(clip16(a))
+        fourth(clipped::<16>(a))
     }
 
     fn untwist(&self, a: u8) -> u8 {
-        fourth(clip16(a))
+        fourth(clipped::<16>(a))
     }
 
     fn width(&self) -> usize {
@@ -102,7 +97,7 @@ impl Kind for Gf16 {
     }
 
     fn digits(&self, a: u8) -> [u8; 8] {
-        let x = clip16(a) as usize;
+        let x = clipped::<16>(a) as usize;
         [DIGIT_1[x], DIGIT_2[x], 0, 0, 0, 0, 0, 0]
     }
 }

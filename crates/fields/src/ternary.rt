@@ -1,25 +1,27 @@
 // Kind 3: polynomials over the integers modulo 3, modulo z^4 + z + 2, worked on by their coefficients. A code has them as its
 // digits in base 3, the constant lowest.
+#![tactic(auto, using(crate::proofs::TernaryAnswers::answers))]
+
 ghost use Rattle.std.specs.Prelude.{◌≡◌, ℕ, ◌<◌, ◌≤◌};
-ghost use Rattle.fields.specs.Meaning.{clip};
 ghost use Rattle.fields.specs.Residues.{coefficients, product, power};
 ghost use Rattle.fields.specs.Residues as residues;
 ghost use Rattle.fields.specs.Shipped.{modulus81, gf81};
 ghost use Rattle.fields.specs.Ternary.{trits};
 ghost use Rattle.fields.specs.ShippedLaws.{gf81_laws};
 
-use super::Kind;
 use super::trits::Trits;
+use super::{Kind, clipped};
 
-#[derive(Clone, Copy)]
+#[derive(Clone, Copy, Debug, Default, PartialEq, Eq)]
 pub struct Gf81;
 
-fn clip81(a: u8) -> u8
-    ensures value { result ≡ clip gf81 a }
-    ensures below { result < 81 }
-{
-    if a < 81 { a } else { 0 }
-}
+// The coefficients of z^4 + z + 2 below the top one.
+const LOW: Trits = Trits {
+    c0: 2,
+    c1: 1,
+    c2: 0,
+    c3: 0,
+};
 
 // The coefficients of a, and the code that has them.
 fn split(a: u8) -> Trits
@@ -75,29 +77,18 @@ fn raise(f: Trits) -> Trits
         c2: f.c1,
         c3: f.c2,
     };
-    let low = Trits {
-        c0: 2,
-        c1: 1,
-        c2: 0,
-        c3: 0,
-    };
-    plus(moved, scale(f.c3 * 2, low))
+    plus(moved, scale(f.c3 * 2, LOW))
 }
 
 // f (g0 + z (g1 + z (g2 + z g3))), from the inside.
 fn times(f: Trits, g: Trits) -> Trits
     ensures { trits result ≡ residues.times modulus81 (trits f) (trits g) }
 {
-    let none = Trits {
-        c0: 0,
-        c1: 0,
-        c2: 0,
-        c3: 0,
-    };
-    let inner = plus(scale(g.c3, f), raise(none));
-    let middle = plus(scale(g.c2, f), raise(inner));
-    let outer = plus(scale(g.c1, f), raise(middle));
-    plus(scale(g.c0, f), raise(outer))
+    let mut sum = scale(g.c3, f);
+    for c in [g.c2, g.c1, g.c0] {
+        sum = plus(scale(c, f), raise(sum));
+    }
+    sum
 }
 
 fn multiplied(a: u8, b: u8) -> u8
@@ -121,7 +112,7 @@ fn reciprocal(a: u8) -> u8
 {
     let mut x = a;
     let mut all = a;
-    for _i in 0..3usize {
+    for _ in 0..3u8 {
         x = cube(x);
         all = multiplied(multiplied(all, x), x);
     }
@@ -142,28 +133,28 @@ impl Kind for Gf81 {
     }
 
     fn sum(&self, a: u8, b: u8) -> u8 {
-        joined(plus(split(clip81(a)), split(clip81(b))))
+        joined(plus(split(clipped::<81>(a)), split(clipped::<81>(b))))
     }
 
     fn opposite(&self, a: u8) -> u8 {
-        joined(scale(2, split(clip81(a))))
+        joined(scale(2, split(clipped::<81>(a))))
     }
 
     fn product(&self, a: u8, b: u8) -> u8 {
-        multiplied(clip81(a), clip81(b))
+        multiplied(clipped::<81>(a), clipped::<81>(b))
     }
 
     fn inverse(&self, a: u8) -> Option<u8> {
-        let x = clip81(a);
+        let x = clipped::<81>(a);
         if x == 0 { None } else { Some(reciprocal(x)) }
     }
 
     fn twist(&self, a: u8) -> u8 {
-        cube(clip81(a))
+        cube(clipped::<81>(a))
     }
 
     fn untwist(&self, a: u8) -> u8 {
-        cube(cube(cube(clip81(a))))
+        cube(cube(cube(clipped::<81>(a))))
     }
 
     fn width(&self) -> usize {
@@ -181,7 +172,7 @@ impl Kind for Gf81 {
     }
 
     fn digits(&self, a: u8) -> [u8; 8] {
-        let f = split(clip81(a));
+        let f = split(clipped::<81>(a));
         [f.c0, f.c1, f.c2, f.c3, 0, 0, 0, 0]
     }
 }

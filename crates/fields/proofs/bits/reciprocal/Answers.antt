@@ -1,12 +1,9 @@
 use Rattle.std.proofs.Common.{arith}
-use Rattle.fields.proofs.PowerLoops.{squares_start, squares_go_on, squares_end}
+use Rattle.fields.proofs.PowerLoops.{squares_start, squares_go_on}
 use Rattle.fields.proofs.bits.reciprocal.Goals as goal
 
-pub loop-i-init : goal.loop-i-init
-loop-i-init c = squares_start c.args.a (omega arith)
+pub loop-init : goal.loop-init
+loop-init c = squares_start c.args.a (omega arith)
 
-pub loop-i-preserved : goal.loop-i-preserved
-loop-i-preserved c = squares_go_on (omega arith) c.loop-i.invariant c.times-x.ensures c.times-all.ensures
-
-pub returns : goal.returns
-returns c = squares_end (omega arith) c.loop-i.invariant
+pub loop-preserved : goal.loop-preserved
+loop-preserved c = squares_go_on (omega arith) c.loop.invariant c.times-x.ensures c.times-all.ensures

@@ -1,15 +1,5 @@
-use Rattle.std.proofs.Common.{arith}
-use Rattle.fields.proofs.PowerLoops.{cubes_start, cubes_go_on, cubes_code, cubes_end}
+use Rattle.fields.proofs.PowerLoops.{cubes_go_on}
 use Rattle.fields.proofs.ternary.reciprocal.Goals as goal
 
-pub loop-i-init : goal.loop-i-init
-loop-i-init c = cubes_start c.args.a c.requires
-
-pub cube-x-requires : goal.cube-x-requires
-cube-x-requires c = cubes_code c.requires c.loop-i.invariant
-
-pub loop-i-preserved : goal.loop-i-preserved
-loop-i-preserved c = cubes_go_on c.requires c.loop-i.invariant c.cube-x.ensures.value c.multiplied.ensures c.multiplied-all.ensures
-
-pub returns : goal.returns
-returns c = cubes_end (omega arith) c.loop-i.invariant
+pub loop-preserved : goal.loop-preserved
+loop-preserved c = cubes_go_on c.requires c.loop.invariant c.cube-x.ensures.value c.multiplied.ensures c.multiplied-all.ensures

@@ -1,5 +1,0 @@
-use Rattle.fields.proofs.TernaryAnswers.{opposite_answers}
-use Rattle.fields.proofs.ternary.Gf81Kind.opposite.Goals as goal
-
-pub returns : goal.returns
-returns c = opposite_answers c.args.a c.clip81.ensures.value c.split.ensures c.scale.ensures c.joined.ensures
