@@ -5,7 +5,7 @@
 ghost use Rattle.std.specs.Prelude.{IfOk, ◌≤◌, vec_len};
 
 use brought::Gf256Over16;
-use drills::Random;
+use drills::{Plan, Random};
 use fields::{Gf16, Gf81, Gf256, Kind, Mirror, Mod13};
 use shown::{found, line};
 use skew::{
@@ -25,13 +25,6 @@ fn drawn<K: Kind>(kind: &K, random: &mut Random, n: usize) -> Polynomial {
         out.push(x);
     }
     out
-}
-
-// How courses of a kind are made: powers of the generator are not conjugate, as far as there are blocks.
-#[derive(Clone, Copy)]
-struct Plan {
-    generator: u8,
-    blocks: usize,
 }
 
 // As many blocks, each with the basis for its locators and the next power of the generator for its parameter; no more points than
