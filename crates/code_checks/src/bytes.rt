@@ -1,74 +1,62 @@
-// The bytes of a sheet, held by value: at most 64.
-ghost use Rattle.std.specs.Prelude.{◌≤◌};
+// Bytes of sheets with a change.
+use codes::SheetBytes;
 
-const ROOM: usize = 64;
-
-#[derive(Clone, Copy)]
-pub struct Bytes {
-    cells: [u8; ROOM],
-    len: usize,
-    ghost fits: { len ≤ 64 },
+// A number that is at most 255, as a byte.
+pub fn byte(n: usize) -> u8 {
+    u8::try_from(n).unwrap_or(u8::MAX)
 }
 
-impl Bytes {
-    pub fn empty() -> Bytes {
-        Bytes {
-            cells: [0; ROOM],
-            len: 0,
-        }
-    }
+// The sheet with these bytes.
+pub fn sheet_of(bytes: &[u8]) -> SheetBytes {
+    let mut out = SheetBytes::empty();
+    out.append(bytes);
+    out
+}
 
-    pub fn as_slice(&self) -> &[u8] {
-        &self.cells[0..self.len]
-    }
-
-    // One byte more, as far as there is room.
-    pub fn push(&mut self, x: u8) {
-        if self.len < ROOM {
-            self.cells[self.len] = x;
-            self.len += 1;
-        }
-    }
-
+pub trait Altered {
     // A count, and then as many bytes.
-    pub fn section(&mut self, bytes: &[u8]) {
-        self.push((bytes.len() & 0xff) as u8);
-        for x in bytes {
-            self.push(*x);
-        }
-    }
+    fn section(&mut self, bytes: &[u8]);
 
     // The byte at a place; 0 where there is none.
-    pub fn at(&self, place: usize) -> u8 {
-        if place < self.len {
-            self.cells[place]
-        } else {
-            0
-        }
-    }
+    fn at(&self, place: usize) -> u8;
 
     // The bytes with another one at a place.
-    pub fn with(&self, place: usize, x: u8) -> Bytes {
-        let mut out = *self;
-        if place < out.len {
-            out.cells[place] = x;
+    fn with(&self, place: usize, x: u8) -> Self;
+
+    // The bytes with one more.
+    fn longer(&self, x: u8) -> Self;
+
+    // The bytes without the last.
+    fn shorter(&self) -> Self;
+}
+
+impl Altered for SheetBytes {
+    fn section(&mut self, bytes: &[u8]) {
+        self.push(byte(bytes.len()));
+        self.append(bytes);
+    }
+
+    fn at(&self, place: usize) -> u8 {
+        self.as_slice().get(place).copied().unwrap_or(0)
+    }
+
+    fn with(&self, place: usize, x: u8) -> SheetBytes {
+        let mut out = SheetBytes::empty();
+        for (i, y) in self.as_slice().iter().enumerate() {
+            out.push(if i == place { x } else { *y });
         }
         out
     }
 
-    // The bytes with one more.
-    pub fn longer(&self, x: u8) -> Bytes {
+    fn longer(&self, x: u8) -> SheetBytes {
         let mut out = *self;
         out.push(x);
         out
     }
 
-    // The bytes without the last.
-    pub fn shorter(&self) -> Bytes {
-        let mut out = Bytes::empty();
-        for i in 0..self.len.saturating_sub(1) {
-            out.push(self.at(i));
-        }
-        out
+    fn shorter(&self) -> SheetBytes {
+        let bytes = self.as_slice();
+        let end = bytes.len().saturating_sub(1);
+        sheet_of(&bytes[..end])
     }
 }

@@ -1,174 +1,98 @@
 // What is done with codes, on drawn codes and drawn words.
-use crate::bytes::Bytes;
-use crate::drafts::{Draft, Plan, norm};
-use crate::random::Random;
-use crate::showing::{coefficients, judged, line, number, symbols};
-use codes::{Code, Course, Symbols, dual_locators, encode, message, set_up, syndromes};
+use crate::drafts::{Draft, norm};
+use crate::showing::judged;
+use crate::words::{Words, cut, drawn, product_sum, spoiled, zeros};
+use codes::{Code, Course, SheetBytes, Symbols, dual_locators, encode, message, set_up, syndromes};
+use drills::{Plan, Random};
 use fields::Kind;
 use ranks::{rank, weight};
+use shown::{found, line};
 use std::io;
 
-// The first n symbols.
-fn cut(row: &Symbols, n: usize) -> Symbols {
-    let mut out = Symbols::empty();
-    for i in 0..n {
-        out.push(row.get(i));
-    }
-    out
-}
-
-// The word with x added at a place.
-fn spoiled<K: Kind>(kind: &K, word: &Symbols, place: usize, x: u8) -> Symbols {
-    let mut out = Symbols::empty();
-    for i in 0..word.len() {
-        let y = word.get(i);
-        out.push(if i == place { kind.sum(y, x) } else { y });
-    }
-    out
-}
-
-fn product_sum<K: Kind>(kind: &K, a: &Symbols, b: &Symbols) -> u8 {
-    let mut out = 0;
-    for i in 0..a.len() {
-        out = kind.sum(out, kind.product(a.get(i), b.get(i)));
-    }
-    out
-}
-
-// A codeword, the same with one symbol changed, and any word.
+// A code over a kind, and where its answers are printed.
 #[derive(Clone, Copy)]
-struct Words {
-    good: Symbols,
-    near: Symbols,
-    any: Symbols,
+struct Desk<'a, K> {
+    rt: &'a HostRuntime,
+    kind: &'a K,
+    code: &'a Code,
 }
 
-fn messages<K: Kind>(
-    rt: &HostRuntime,
-    kind: &K,
-    random: &mut Random,
-    code: &Code,
-) -> io::Result<Words> {
-    let n = code.course.len();
-    let sent = random.row(kind, code.dimension);
-    line(rt, "sent", sent.as_slice())?;
-    let good = encode(kind, code, sent.as_slice());
-    line(rt, "word", good.as_slice())?;
-    coefficients(rt, "message", message(kind, code, good.as_slice()))?;
-    let place = random.place(n);
-    let near = spoiled(kind, &good, place, random.unit(kind));
-    coefficients(rt, "near", message(kind, code, near.as_slice()))?;
-    let any = random.row(kind, n);
-    coefficients(rt, "any", message(kind, code, any.as_slice()))?;
-    let short = cut(&good, n.saturating_sub(1));
-    coefficients(rt, "short", message(kind, code, short.as_slice()))?;
-    let long = encode(kind, code, any.as_slice());
-    line(rt, "long", long.as_slice())?;
-    coefficients(rt, "message", message(kind, code, long.as_slice()))?;
-    Ok(Words { good, near, any })
-}
-
-fn weigh<K: Kind>(
-    rt: &HostRuntime,
-    kind: &K,
-    name: &str,
-    code: &Code,
-    word: &Symbols,
-) -> io::Result<()> {
-    let w = weight(kind, code.lengths.as_slice(), word.as_slice());
-    number(rt, name, w)
-}
-
-// Weights of a codeword, of any word, of one with two symbols, of one with rank at most 1 in each block, of nothing but 0, and of
-// one symbol too few.
-fn weights<K: Kind>(
-    rt: &HostRuntime,
-    kind: &K,
-    random: &mut Random,
-    code: &Code,
-    words: &Words,
-) -> io::Result<()> {
-    let n = code.course.len();
-    let zero = cut(&Symbols::empty(), n);
-    let place = random.place(n);
-    let sparse = spoiled(kind, &zero, place, random.unit(kind));
-    let place = random.place(n);
-    let sparse = spoiled(kind, &sparse, place, random.unit(kind));
-    let by = random.unit(kind);
-    let mut narrow = Symbols::empty();
-    for _i in 0..n {
-        let fixed = norm(kind, random.symbol(kind));
-        narrow.push(kind.product(by, fixed));
+impl<K: Kind> Desk<'_, K> {
+    fn read(&self, name: &str, word: &Symbols) -> io::Result<()> {
+        found(
+            self.rt,
+            name,
+            message(self.kind, self.code, word.as_slice()),
+        )
     }
-    weigh(rt, kind, "weight", code, &words.good)?;
-    weigh(rt, kind, "weight", code, &words.any)?;
-    weigh(rt, kind, "sparse", code, &sparse)?;
-    weigh(rt, kind, "narrow", code, &narrow)?;
-    weigh(rt, kind, "zero", code, &zero)?;
-    weigh(
-        rt,
-        kind,
-        "short",
-        code,
-        &cut(&words.any, n.saturating_sub(1)),
-    )?;
-    let all = rank(kind, words.any.as_slice());
-    println!(rt; "ranks {all} {}", rank(kind, narrow.as_slice()))
-}
 
-fn checked<K: Kind>(
-    rt: &HostRuntime,
-    kind: &K,
-    code: &Code,
-    duals: &Symbols,
-    word: &Symbols,
-) -> io::Result<()> {
-    let points = code.course.as_slice();
-    let s = syndromes(
-        kind,
-        points,
-        duals.as_slice(),
-        code.dimension,
-        word.as_slice(),
-    );
-    symbols(rt, "syndromes", s)
-}
+    fn messages(&self, random: &mut Random) -> io::Result<Words> {
+        let n = self.code.course.len();
+        let sent = drawn(self.kind, random, self.code.dimension);
+        line(self.rt, "sent", sent.as_slice())?;
+        let good = encode(self.kind, self.code, sent.as_slice());
+        line(self.rt, "word", good.as_slice())?;
+        self.read("message", &good)?;
+        let place = random.place(n);
+        let near = spoiled(self.kind, &good, place, random.unit(self.kind));
+        self.read("near", &near)?;
+        let any = drawn(self.kind, random, n);
+        self.read("any", &any)?;
+        self.read("short", &cut(&good))?;
+        let long = encode(self.kind, self.code, any.as_slice());
+        line(self.rt, "long", long.as_slice())?;
+        self.read("message", &long)?;
+        Ok(Words { good, near, any })
+    }
 
-// Syndromes of the words; nothing where a row or k has not its length.
-fn checks<K: Kind>(
-    rt: &HostRuntime,
-    kind: &K,
-    code: &Code,
-    duals: &Symbols,
-    words: &Words,
-) -> io::Result<()> {
-    let n = code.course.len();
-    let points = code.course.as_slice();
-    checked(rt, kind, code, duals, &words.good)?;
-    checked(rt, kind, code, duals, &words.near)?;
-    checked(rt, kind, code, duals, &words.any)?;
-    checked(
-        rt,
-        kind,
-        code,
-        duals,
-        &cut(&words.good, n.saturating_sub(1)),
-    )?;
-    checked(
-        rt,
-        kind,
-        code,
-        &cut(duals, n.saturating_sub(1)),
-        &words.good,
-    )?;
-    let over = n.saturating_add(1);
-    let s = syndromes(kind, points, duals.as_slice(), over, words.good.as_slice());
-    symbols(rt, "syndromes", s)?;
-    symbols(
-        rt,
-        "no duals",
-        dual_locators(kind, Course::empty().as_slice()),
-    )
+    fn weigh(&self, name: &str, word: &Symbols) -> io::Result<()> {
+        let lengths = self.code.lengths.as_slice();
+        found(self.rt, name, weight(self.kind, lengths, word.as_slice()))
+    }
+
+    // Weights of a codeword, of any word, of one with two symbols, of one with rank at most 1 in each block, of nothing but 0, and
+    // of one symbol too few.
+    fn weights(&self, random: &mut Random, words: &Words) -> io::Result<()> {
+        let n = self.code.course.len();
+        let zero = zeros(n);
+        let place = random.place(n);
+        let sparse = spoiled(self.kind, &zero, place, random.unit(self.kind));
+        let place = random.place(n);
+        let sparse = spoiled(self.kind, &sparse, place, random.unit(self.kind));
+        let by = random.unit(self.kind);
+        let mut narrow = Symbols::empty();
+        for x in random.symbols(self.kind).take(n) {
+            narrow.push(self.kind.product(by, norm(self.kind, x)));
+        }
+        self.weigh("weight", &words.good)?;
+        self.weigh("weight", &words.any)?;
+        self.weigh("sparse", &sparse)?;
+        self.weigh("narrow", &narrow)?;
+        self.weigh("zero", &zero)?;
+        self.weigh("short", &cut(&words.any))?;
+        let all = rank(self.kind, words.any.as_slice());
+        println!(self.rt; "ranks {all} {}", rank(self.kind, narrow.as_slice()))
+    }
+
+    fn checked(&self, duals: &Symbols, k: usize, word: &Symbols) -> io::Result<()> {
+        let points = self.code.course.as_slice();
+        let s = syndromes(self.kind, points, duals.as_slice(), k, word.as_slice());
+        found(self.rt, "syndromes", s)
+    }
+
+    // Syndromes of the words; nothing where a row or k has not its length.
+    fn checks(&self, duals: &Symbols, words: &Words) -> io::Result<()> {
+        let k = self.code.dimension;
+        self.checked(duals, k, &words.good)?;
+        self.checked(duals, k, &words.near)?;
+        self.checked(duals, k, &words.any)?;
+        self.checked(duals, k, &cut(&words.good))?;
+        self.checked(&cut(duals), k, &words.good)?;
+        let over = self.code.course.len().saturating_add(1);
+        self.checked(duals, over, &words.good)?;
+        let none = dual_locators(self.kind, Course::empty().as_slice());
+        found(self.rt, "no duals", none)
+    }
 }
 
 // The dual of a code as a draft for the mirror: untwisted parameters, and the dual locators.
@@ -185,13 +109,23 @@ fn dual<K: Kind>(kind: &K, draft: &Draft, duals: &Symbols) -> Draft {
 }
 
 // The dual of the dual: a codeword of the first code is one again.
-fn returned<K: Kind>(rt: &HostRuntime, kind: &K, sheet: &Bytes, words: &Words) -> io::Result<()> {
-    judged(rt, kind, sheet)?;
+fn returned<K: Kind>(
+    rt: &HostRuntime,
+    kind: &K,
+    sheet: &SheetBytes,
+    words: &Words,
+) -> io::Result<()> {
+    judged(rt, kind, sheet.as_slice())?;
     let Ok(code) = set_up(kind, sheet.as_slice()) else {
         return println!(rt; "no dual of the dual");
     };
-    coefficients(rt, "again", message(kind, &code, words.good.as_slice()))?;
-    coefficients(rt, "again", message(kind, &code, words.near.as_slice()))
+    let desk = Desk {
+        rt,
+        kind,
+        code: &code,
+    };
+    desk.read("again", &words.good)?;
+    desk.read("again", &words.near)
 }
 
 // The dual over the mirror: a codeword of it, and its product-sums with a codeword and with any word; and then its own dual.
@@ -205,19 +139,19 @@ fn turned<K: Kind, M: Kind>(
     words: &Words,
 ) -> io::Result<()> {
     let sheet = draft.sheet(mirror.number(), k);
-    judged(rt, mirror, &sheet)?;
+    judged(rt, mirror, sheet.as_slice())?;
     let Ok(code) = set_up(mirror, sheet.as_slice()) else {
         return println!(rt; "no dual");
     };
-    let sent = random.row(mirror, k);
+    let sent = drawn(mirror, random, k);
     let other = encode(mirror, &code, sent.as_slice());
     line(rt, "dual word", other.as_slice())?;
     let good = product_sum(kind, &words.good, &other);
     let any = product_sum(kind, &words.any, &other);
     println!(rt; "product-sums {good} {any}")?;
-    let found = dual_locators(mirror, code.course.as_slice());
-    symbols(rt, "duals", found)?;
-    let Some(duals) = found else {
+    let answer = dual_locators(mirror, code.course.as_slice());
+    found(rt, "duals", answer)?;
+    let Some(duals) = answer else {
         return println!(rt; "no dual locators");
     };
     let back = dual(mirror, draft, &duals);
@@ -234,24 +168,30 @@ fn drill<K: Kind, M: Kind>(
     k: usize,
 ) -> io::Result<()> {
     let sheet = draft.sheet(kind.number(), k);
-    judged(rt, kind, &sheet)?;
+    judged(rt, kind, sheet.as_slice())?;
     let Ok(code) = set_up(kind, sheet.as_slice()) else {
         return println!(rt; "no code");
     };
-    let words = messages(rt, kind, random, &code)?;
-    weights(rt, kind, random, &code, &words)?;
-    let found = dual_locators(kind, code.course.as_slice());
-    symbols(rt, "duals", found)?;
-    let Some(duals) = found else {
+    let desk = Desk {
+        rt,
+        kind,
+        code: &code,
+    };
+    let words = desk.messages(random)?;
+    desk.weights(random, &words)?;
+    let answer = dual_locators(kind, code.course.as_slice());
+    found(rt, "duals", answer)?;
+    let Some(duals) = answer else {
         return println!(rt; "no dual locators");
     };
-    checks(rt, kind, &code, &duals, &words)?;
+    desk.checks(&duals, &words)?;
     let other = dual(kind, draft, &duals);
     let rest = duals.len().saturating_sub(k);
     turned(rt, kind, mirror, random, &other, rest, &words)
 }
 
-fn drills<K: Kind, M: Kind>(
+// Codes of dimension 1, of half the length and of the whole.
+fn dimensions<K: Kind, M: Kind>(
     rt: &HostRuntime,
     kind: &K,
     mirror: &M,
@@ -259,9 +199,10 @@ fn drills<K: Kind, M: Kind>(
     draft: &Draft,
 ) -> io::Result<()> {
     let n = draft.locators.len();
-    drill(rt, kind, mirror, random, draft, 1)?;
-    drill(rt, kind, mirror, random, draft, (n / 2).max(1))?;
-    drill(rt, kind, mirror, random, draft, n)
+    for k in [1, (n / 2).max(1), n] {
+        drill(rt, kind, mirror, random, draft, k)?;
+    }
+    Ok(())
 }
 
 // The largest code, and two of drawn lengths.
@@ -271,15 +212,16 @@ pub fn coding<K: Kind, M: Kind>(
     mirror: &M,
     plan: Plan,
 ) -> io::Result<()> {
-    let mut random = Random {
-        state: u32::from(kind.number()),
-    };
-    let full = Draft::drawn(kind, plan, &mut random, plan.blocks, true);
-    drills(rt, kind, mirror, &mut random, &full)?;
+    let mut random = Random::seeded(kind.number());
+    let width = kind.width();
+    let full = Draft::drawn(kind, plan, &mut random, |_random| width);
+    dimensions(rt, kind, mirror, &mut random, &full)?;
     for _i in 0..2usize {
         let blocks = random.place(plan.blocks).saturating_add(1);
-        let draft = Draft::drawn(kind, plan, &mut random, blocks, false);
-        drills(rt, kind, mirror, &mut random, &draft)?;
+        let fewer = Plan { blocks, ..plan };
+        let size = |random: &mut Random| random.place(width).saturating_add(1);
+        let draft = Draft::drawn(kind, fewer, &mut random, size);
+        dimensions(rt, kind, mirror, &mut random, &draft)?;
     }
     Ok(())
 }

@@ -1,15 +1,8 @@
 // Codes, as sheets are made of them.
-use crate::bytes::Bytes;
-use crate::random::Random;
-use codes::Symbols;
+use crate::bytes::{Altered, byte};
+use codes::{SheetBytes, Symbols};
+use drills::{Plan, Random};
 use fields::Kind;
-
-// How codes of a kind are made: powers of the generator are not conjugate, as far as there are blocks.
-#[derive(Clone, Copy)]
-pub struct Plan {
-    pub generator: u8,
-    pub blocks: usize,
-}
 
 #[derive(Clone, Copy)]
 pub struct Draft {
@@ -21,10 +14,7 @@ pub struct Draft {
 // c twisted × a × (inverse of c).
 pub fn moved<K: Kind>(kind: &K, c: u8, a: u8) -> u8 {
     let upper = kind.product(kind.twist(c), a);
-    match kind.inverse(c) {
-        Some(d) => kind.product(upper, d),
-        None => a,
-    }
+    kind.inverse(c).map_or(a, |d| kind.product(upper, d))
 }
 
 // The product of x and its twists, as many as there are digits: it is fixed.
@@ -53,41 +43,37 @@ impl Draft {
         let mut parameter = 1;
         for _i in 0..plan.blocks {
             out.parameters.push(parameter);
-            out.lengths.push((kind.width() & 0xff) as u8);
-            for j in 0..kind.width() {
-                out.locators.push(kind.basis(j + 1));
+            out.lengths.push(byte(kind.width()));
+            for j in 1..=kind.width() {
+                out.locators.push(kind.basis(j));
             }
             parameter = kind.product(parameter, plan.generator);
         }
         out
     }
 
-    // Blocks with drawn conjugates of these powers, and drawn locators: each a multiple of a basis element by one symbol of the
-    // block, plus the locator before it.
-    pub fn drawn<K: Kind>(
+    // Blocks as long as `size` says, with drawn conjugates of these powers, and drawn locators: each a multiple of a basis element by
+    // one symbol of the block, plus the locator before it.
+    pub fn drawn<K: Kind, F: Fn(&mut Random) -> usize>(
         kind: &K,
         plan: Plan,
         random: &mut Random,
-        blocks: usize,
-        full: bool,
-    ) -> Draft {
+        size: F,
+    ) -> Draft
+        requires { F.IsAlwaysCallable size }
+    {
         let mut out = Draft::empty();
         let mut power = 1;
-        for _i in 0..blocks {
+        for _i in 0..plan.blocks {
             let by = random.unit(kind);
             out.parameters.push(moved(kind, by, power));
             power = kind.product(power, plan.generator);
-            let width = kind.width();
-            let size = if full {
-                width
-            } else {
-                random.place(width).saturating_add(1)
-            };
-            out.lengths.push((size & 0xff) as u8);
+            let length = size(random);
+            out.lengths.push(byte(length));
             let by = random.unit(kind);
             let mut locator = 0;
-            for j in 0..size {
-                let term = kind.product(by, kind.basis(j + 1));
+            for j in 1..=length {
+                let term = kind.product(by, kind.basis(j));
                 locator = kind.sum(term, locator);
                 out.locators.push(locator);
             }
@@ -95,10 +81,9 @@ impl Draft {
         out
     }
 
-    pub fn sheet(&self, number: u8, k: usize) -> Bytes {
-        let mut out = Bytes::empty();
-        out.push(number);
-        out.push((k & 0xff) as u8);
+    pub fn sheet(&self, number: u8, k: usize) -> SheetBytes {
+        let mut out = SheetBytes::empty();
+        out.append(&[number, byte(k)]);
         out.section(self.lengths.as_slice());
         out.section(self.parameters.as_slice());
         out.section(self.locators.as_slice());

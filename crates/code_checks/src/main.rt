@@ -4,7 +4,7 @@
 
 use brought::Gf256Over16;
 use coding::coding;
-use drafts::Plan;
+use drills::Plan;
 use fields::{Gf16, Gf81, Gf256, Kind, Mirror, Mod13};
 use figures::figures;
 use judging::judging;
@@ -15,8 +15,9 @@ mod coding;
 mod drafts;
 mod figures;
 mod judging;
-mod random;
 mod showing;
+mod sweeping;
+mod words;
 
 fn one<K: Kind, M: Kind>(rt: &HostRuntime, kind: &K, mirror: &M, plan: Plan) -> io::Result<()> {
     println!(rt; "kind {}", kind.number())?;

@@ -2,73 +2,57 @@
 // mirrors. What it prints is held to what an unrelated computation printed (reference/fields.py).
 #![tactic(auto)]
 
-ghost use Rattle.std.specs.Prelude.{◌≡◌};
-
 use brought::Gf256Over16;
+use drills::Checksum;
 use fields::{Gf16, Gf81, Gf256, Kind, Mirror, Mod13};
 use std::io;
 
-const START: u32 = 2166136261;
-
-// One byte into a check sum (FNV-1a).
-fn take(check: u32, byte: u8) -> u32 {
-    (check ^ u32::from(byte)).wrapping_mul(16777619)
-}
-
-fn sums<K: Kind>(kind: &K) -> u32 {
-    let mut check = START;
+// The check sum over what an operation gives at every pair of bytes.
+fn over_pairs<F: Fn(u8, u8) -> u8>(operation: F) -> u32
+    requires { F.IsAlwaysCallable operation }
+{
+    let mut check = Checksum::new();
     for a in 0..=255u8 {
         for b in 0..=255u8 {
-            check = take(check, kind.sum(a, b));
+            check.take(operation(a, b));
         }
     }
-    check
-}
-
-fn products<K: Kind>(kind: &K) -> u32 {
-    let mut check = START;
-    for a in 0..=255u8 {
-        for b in 0..=255u8 {
-            check = take(check, kind.product(a, b));
-        }
-    }
-    check
+    check.value()
 }
 
 fn digits<K: Kind>(kind: &K) -> u32 {
-    let mut check = START;
+    let mut check = Checksum::new();
     for a in 0..=255u8 {
         for d in kind.digits(a) {
-            check = take(check, d);
+            check.take(d);
         }
     }
-    check
+    check.value()
 }
 
-fn unary<K: Kind>(rt: &HostRuntime, kind: &K) -> io::Result<()> {
-    print!(rt; "opposite")?;
+// What an operation gives at every byte.
+fn row<F: Fn(u8) -> u8>(rt: &impl Print, name: &str, operation: F) -> io::Result<()>
+    requires { F.IsAlwaysCallable operation }
+{
+    print!(rt; "{name}")?;
     for a in 0..=255u8 {
-        print!(rt; " {}", kind.opposite(a))?;
+        print!(rt; " {}", operation(a))?;
     }
-    print!(rt; "\ninverse")?;
+    println!(rt; "")
+}
+
+fn inverses<K: Kind>(rt: &impl Print, kind: &K) -> io::Result<()> {
+    print!(rt; "inverse")?;
     for a in 0..=255u8 {
         match kind.inverse(a) {
             Some(b) => print!(rt; " {b}")?,
             None => print!(rt; " -")?,
         }
     }
-    print!(rt; "\ntwist")?;
-    for a in 0..=255u8 {
-        print!(rt; " {}", kind.twist(a))?;
-    }
-    print!(rt; "\nuntwist")?;
-    for a in 0..=255u8 {
-        print!(rt; " {}", kind.untwist(a))?;
-    }
     println!(rt; "")
 }
 
-fn report<K: Kind>(rt: &HostRuntime, kind: &K) -> io::Result<()> {
+fn report<K: Kind>(rt: &impl Print, kind: &K) -> io::Result<()> {
     println!(rt;
         "kind {} size {} width {}",
         kind.number(),
@@ -79,21 +63,25 @@ fn report<K: Kind>(rt: &HostRuntime, kind: &K) -> io::Result<()> {
     for j in 0..10usize {
         print!(rt; " {}", kind.basis(j))?;
     }
-    println!(rt; "\nsum {}", sums(kind))?;
-    println!(rt; "product {}", products(kind))?;
-    unary(rt, kind)?;
+    println!(rt; "\nsum {}", over_pairs(|a, b| kind.sum(a, b)))?;
+    println!(rt; "product {}", over_pairs(|a, b| kind.product(a, b)))?;
+    row(rt, "opposite", |a| kind.opposite(a))?;
+    inverses(rt, kind)?;
+    row(rt, "twist", |a| kind.twist(a))?;
+    row(rt, "untwist", |a| kind.untwist(a))?;
     println!(rt; "digits {}", digits(kind))
 }
 
+// A kind and its mirror.
+fn both<K: Kind + Copy>(rt: &impl Print, kind: K) -> io::Result<()> {
+    report(rt, &kind)?;
+    report(rt, &Mirror { inner: kind })
+}
+
 fn main(rt: HostRuntime) -> io::Result<()> {
-    report(&rt, &Gf256)?;
-    report(&rt, &Mirror { inner: Gf256 })?;
-    report(&rt, &Gf16)?;
-    report(&rt, &Mirror { inner: Gf16 })?;
-    report(&rt, &Gf81)?;
-    report(&rt, &Mirror { inner: Gf81 })?;
-    report(&rt, &Mod13)?;
-    report(&rt, &Mirror { inner: Mod13 })?;
-    report(&rt, &Gf256Over16)?;
-    report(&rt, &Mirror { inner: Gf256Over16 })
+    both(&rt, Gf256)?;
+    both(&rt, Gf16)?;
+    both(&rt, Gf81)?;
+    both(&rt, Mod13)?;
+    both(&rt, Gf256Over16)
 }

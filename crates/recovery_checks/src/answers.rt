@@ -4,35 +4,25 @@ use fields::Kind;
 use hints::{Hints, NotTaken};
 use ranks::weight;
 use recovery::{Recovery, prepare, recover, recover_by};
+use shown::Row;
 use std::io;
 
-pub fn verdict(rt: &HostRuntime, sort: &str, taken: Result<(), NotTaken>) -> io::Result<()> {
+pub fn verdict(rt: &impl Print, sort: &str, taken: Result<(), NotTaken>) -> io::Result<()> {
     match taken {
         Ok(()) => print!(rt; "{sort} taken; "),
         Err(reason) => print!(rt; "{sort} {reason}; "),
     }
 }
 
-fn numbers(rt: &HostRuntime, row: &[u8]) -> io::Result<()> {
-    for x in row {
-        print!(rt; " {x}")?;
-    }
-    Ok(())
-}
-
 // Whether the parts add up to the word less the codeword, and the full part weighs what is said.
 fn adds_up<K: Kind>(kind: &K, code: &Code, word: &[u8], r: &Recovery) -> bool {
-    for i in 0..word.len() {
-        let inner = kind.sum(r.parts.row.get(i), r.parts.column.get(i));
-        let error = kind.sum(r.parts.full.get(i), inner);
-        if kind.sum(r.codeword.get(i), error) != kind.sum(word[i], 0) {
-            return false;
-        }
-    }
-    match weight(kind, code.lengths.as_slice(), r.parts.full.as_slice()) {
-        Some(t) => t == r.errors,
-        None => false,
-    }
+    let parts = &r.parts;
+    let adds = (0..word.len()).all(|i| {
+        let inner = kind.sum(parts.row.get(i), parts.column.get(i));
+        let error = kind.sum(parts.full.get(i), inner);
+        kind.sum(r.codeword.get(i), error) == kind.sum(word[i], 0)
+    });
+    adds && weight(kind, code.lengths.as_slice(), parts.full.as_slice()) == Some(r.errors)
 }
 
 // Whether what is prepared for the code leads to the same codeword and number of full errors, or to nothing both times.
@@ -40,20 +30,17 @@ fn agrees<K: Kind>(kind: &K, code: &Code, hints: &Hints, word: &[u8], r: Option<
     let Some(prepared) = prepare(kind, code) else {
         return false;
     };
-    match recover_by(kind, code, &prepared, hints, word) {
-        Some(a) => match r {
-            Some(b) => a.errors == b.errors && a.codeword.as_slice() == b.codeword.as_slice(),
-            None => false,
-        },
-        None => match r {
-            Some(_b) => false,
-            None => true,
-        },
+    match (recover_by(kind, code, &prepared, hints, word), r) {
+        (Some(a), Some(b)) => {
+            a.errors == b.errors && a.codeword.as_slice() == b.codeword.as_slice()
+        }
+        (None, None) => true,
+        _ => false,
     }
 }
 
 pub fn answer<K: Kind>(
-    rt: &HostRuntime,
+    rt: &impl Print,
     kind: &K,
     code: &Code,
     hints: &Hints,
@@ -69,14 +56,11 @@ pub fn answer<K: Kind>(
     if !adds_up(kind, code, word, &r) {
         print!(rt; "parts do not add up: ")?;
     }
-    print!(rt; "recovered")?;
-    numbers(rt, r.codeword.as_slice())?;
-    print!(rt; " message")?;
-    numbers(rt, r.message.as_slice())?;
-    print!(rt; " full {}", r.errors)?;
+    let codeword = Row(r.codeword.as_slice());
+    let message = Row(r.message.as_slice());
+    print!(rt; "recovered{codeword} message{message} full {}", r.errors)?;
     if hints.rows == 0 && hints.columns == 0 {
-        print!(rt; "; part")?;
-        numbers(rt, r.parts.full.as_slice())?;
+        print!(rt; "; part{}", Row(r.parts.full.as_slice()))?;
     }
     println!(rt; "")
 }

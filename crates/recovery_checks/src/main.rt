@@ -4,111 +4,60 @@
 // what an unrelated computation printed (reference/recovery.py).
 #![tactic(auto)]
 
+ghost use Rattle.std.specs.Prelude.{⊤};
+
 use answers::{answer, verdict};
-use brought::Gf256Over16;
-use codes::{Code, set_up};
-use fields::{Gf16, Gf81, Gf256, Kind, Mirror, Mod13};
+use cases::{HintReader, Work, split, with_kind};
+use codes::set_up;
+use drills::numbers;
+use fields::{Gf16, Kind, Mod13};
 use hints::Hints;
+use shown::{SECOND_SHEET, SHEET};
 use small::every_word;
-use std::alloc::Global;
 use std::io;
 use std::io::{BufRead, BufReader};
 
 mod answers;
 mod small;
 
-// The first n bytes, or all, and the others.
-fn split(bytes: &[u8], n: usize) -> (&[u8], &[u8]) {
-    if n > bytes.len() {
-        return (bytes, &bytes[0..0]);
-    }
-    (&bytes[0..n], &bytes[n..bytes.len()])
-}
-
-fn add_rows<'a, K: Kind>(
-    rt: &HostRuntime,
-    kind: &K,
-    code: &Code,
-    hints: &mut Hints,
+// A case: its sheet, and the bytes of its word and its hints.
+#[derive(Drop)]
+struct Case<'a> {
+    rt: &'a HostRuntime,
+    sheet: &'a [u8],
     bytes: &'a [u8],
-) -> io::Result<&'a [u8]> {
-    let [count, rest @ ..] = bytes else {
-        return Ok(bytes);
-    };
-    let mut rest = rest;
-    for i in 0..*count {
-        let [block, element, tail @ ..] = rest else {
-            return Ok(rest);
+}
+
+impl Work for Case<'_> {
+    type Out = io::Result<()>;
+
+    ghost gives = { λ _ _ _. ⊤ };
+
+    fn run<K: Kind>(self, kind: &K) -> io::Result<()> {
+        let Ok(code) = set_up(kind, self.sheet) else {
+            return println!(self.rt; "no code");
         };
-        let v = hints.add_row(kind, code, *block as usize, *element);
-        verdict(rt, "row", v)?;
-        rest = tail;
+        let (word, rest) = split(self.bytes, code.course.len());
+        let mut hints = Hints::none();
+        for hint in HintReader::new(rest) {
+            let sort = hint.sort();
+            let v = hint.add_to(kind, &code, &mut hints);
+            verdict(self.rt, sort, v)?;
+        }
+        answer(self.rt, kind, &code, &hints, word)
     }
-    Ok(rest)
 }
 
-fn add_columns<K: Kind>(
-    rt: &HostRuntime,
-    kind: &K,
-    code: &Code,
-    hints: &mut Hints,
-    bytes: &[u8],
-) -> io::Result<()> {
-    let [count, rest @ ..] = bytes else {
-        return Ok(());
-    };
-    let mut rest = rest;
-    for i in 0..*count {
-        let [block, size, tail @ ..] = rest else {
-            return Ok(());
-        };
-        let (row, others) = split(tail, *size as usize);
-        let v = hints.add_column(kind, code, *block as usize, row);
-        verdict(rt, "column", v)?;
-        rest = others;
-    }
-    Ok(())
-}
-
-fn case<K: Kind>(rt: &HostRuntime, kind: &K, sheet: &[u8], bytes: &[u8]) -> io::Result<()> {
-    let Ok(code) = set_up(kind, sheet) else {
-        return println!(rt; "no code");
-    };
-    let (word, rest) = split(bytes, code.course.len());
-    let mut hints = Hints::none();
-    let rest = add_rows(rt, kind, &code, &mut hints, rest)?;
-    add_columns(rt, kind, &code, &mut hints, rest)?;
-    answer(rt, kind, &code, &hints, word)
-}
-
-// The kind that the sheet asks for.
-fn dispatch(rt: &HostRuntime, sheet: &[u8], bytes: &[u8]) -> io::Result<()> {
-    let [number, _rest @ ..] = sheet else {
+// The case over the kind that its sheet asks for.
+fn solve(case: Case<'_>) -> io::Result<()> {
+    let rt = case.rt;
+    let [number, ..] = case.sheet else {
         return println!(rt; "no sheet");
     };
-    match *number {
-        1 => case(rt, &Gf256, sheet, bytes),
-        2 => case(rt, &Gf16, sheet, bytes),
-        3 => case(rt, &Gf81, sheet, bytes),
-        4 => case(rt, &Mod13, sheet, bytes),
-        200 => case(rt, &Gf256Over16, sheet, bytes),
-        129 => case(rt, &Mirror { inner: Gf256 }, sheet, bytes),
-        130 => case(rt, &Mirror { inner: Gf16 }, sheet, bytes),
-        131 => case(rt, &Mirror { inner: Gf81 }, sheet, bytes),
-        132 => case(rt, &Mirror { inner: Mod13 }, sheet, bytes),
-        72 => case(rt, &Mirror { inner: Gf256Over16 }, sheet, bytes),
-        _ => println!(rt; "no kind"),
+    match with_kind(*number, case) {
+        Some(done) => done,
+        None => println!(rt; "no kind"),
     }
-}
-
-// The numbers of a line.
-fn numbers(heap: Global, line: &str) -> anyhow::Result<Vec<u8>> {
-    let mut all = Vec::new(heap);
-    for word in line.split_whitespace() {
-        let x = word.parse::<u8>()?;
-        all.push(x)?;
-    }
-    Ok(all)
 }
 
 fn main(rt: HostRuntime) -> anyhow::Result<()> {
@@ -117,15 +66,15 @@ fn main(rt: HostRuntime) -> anyhow::Result<()> {
         let line = line?;
         let all = numbers(heap, line.as_str())?;
         if let [size, rest @ ..] = all.as_slice() {
-            let (sheet, bytes) = split(rest, *size as usize);
-            dispatch(&rt, sheet, bytes)?;
+            let (sheet, bytes) = split(rest, usize::from(*size));
+            solve(Case {
+                rt: &rt,
+                sheet,
+                bytes,
+            })?;
         }
     }
-    every_word(
-        &rt,
-        &Mod13,
-        &[4, 2, 4, 1, 1, 1, 1, 4, 1, 2, 3, 4, 4, 1, 1, 1, 1],
-    )?;
-    every_word(&rt, &Gf16, &[2, 2, 2, 2, 2, 2, 1, 2, 4, 1, 2, 1, 2])?;
+    every_word(&rt, &Mod13, &SHEET)?;
+    every_word(&rt, &Gf16, &SECOND_SHEET)?;
     Ok(())
 }

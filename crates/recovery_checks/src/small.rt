@@ -1,54 +1,40 @@
 // Every word of a code of four symbols.
 use codes::{Code, set_up};
+use drills::{Checksum, each_word};
 use fields::Kind;
 use hints::Hints;
 use recovery::recover;
 use std::io;
 
-// How many words there are of each sort, and a check sum over what is recovered (FNV-1a, 32 bits).
+// How many words there are of each sort, and a check sum over what is recovered.
 #[derive(Clone, Copy)]
 struct Tally {
     clean: u32,
     single: u32,
     none: u32,
-    check: u32,
+    check: Checksum,
 }
 
 impl Tally {
-    fn byte(&mut self, x: u8) {
-        self.check = (self.check ^ u32::from(x)).wrapping_mul(16777619);
-    }
-
     fn word<K: Kind>(&mut self, kind: &K, code: &Code, word: &[u8]) {
         let Some(r) = recover(kind, code, &Hints::none(), word) else {
-            self.byte(255);
+            self.check.take(255);
             self.none = self.none.wrapping_add(1);
             return;
         };
         for x in r.codeword.as_slice() {
-            self.byte(*x);
+            self.check.take(*x);
         }
-        self.byte((r.errors & 0xff) as u8);
+        self.check.take(u8::try_from(r.errors).unwrap_or(u8::MAX));
         if r.errors == 0 {
             self.clean = self.clean.wrapping_add(1);
         } else {
             self.single = self.single.wrapping_add(1);
         }
     }
-
-    // All words that begin with these two symbols.
-    fn words<K: Kind>(&mut self, kind: &K, code: &Code, a: u8, b: u8) {
-        let q = kind.size();
-        for x in 0..q {
-            for y in 0..q {
-                let word = [a, b, (x & 0xff) as u8, (y & 0xff) as u8];
-                self.word(kind, code, &word);
-            }
-        }
-    }
 }
 
-pub fn every_word<K: Kind>(rt: &HostRuntime, kind: &K, sheet: &[u8]) -> io::Result<()> {
+pub fn every_word<K: Kind>(rt: &impl Print, kind: &K, sheet: &[u8]) -> io::Result<()> {
     let Ok(code) = set_up(kind, sheet) else {
         return println!(rt; "no code");
     };
@@ -56,16 +42,14 @@ pub fn every_word<K: Kind>(rt: &HostRuntime, kind: &K, sheet: &[u8]) -> io::Resu
         clean: 0,
         single: 0,
         none: 0,
-        check: 2166136261,
+        check: Checksum::new(),
     };
-    let q = kind.size();
-    for a in 0..q {
-        for b in 0..q {
-            tally.words(kind, &code, (a & 0xff) as u8, (b & 0xff) as u8);
-        }
-    }
+    each_word(kind, |word| tally.word(kind, &code, &word));
     println!(rt;
         "every word: tF 0 {} tF 1 {} none {} check {}",
-        tally.clean, tally.single, tally.none, tally.check
+        tally.clean,
+        tally.single,
+        tally.none,
+        tally.check.value()
     )
 }

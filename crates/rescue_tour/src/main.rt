@@ -1,37 +1,24 @@
 // Where the tour ends, this program goes on: words of the same code are damaged, and recovered without hints and with them.
 #![tactic(auto)]
 
-use codes::{Code, Symbols, encode, set_up};
+use codes::{Code, encode, set_up};
 use fields::{Kind, Mod13};
-use rescue::{line, rescue};
+use rescue::rescue;
+use shown::{MESSAGE, SHEET, damaged, line};
 use std::io;
 
 mod rescue;
-
-// Kind 4, dimension 2; four blocks of one symbol, their parameters, and the locators.
-const SHEET: [u8; 17] = [4, 2, 4, 1, 1, 1, 1, 4, 1, 2, 3, 4, 4, 1, 1, 1, 1];
-
-const MESSAGE: [u8; 2] = [5, 3];
 
 // What is added to the word: to one symbol, and to two.
 const DAMAGE: [u8; 4] = [0, 1, 0, 0];
 
 const MORE: [u8; 4] = [0, 1, 1, 0];
 
-// The word plus the damage.
-fn damaged<K: Kind>(kind: &K, word: &Symbols, damage: [u8; 4]) -> Symbols {
-    let mut out = Symbols::empty();
-    for i in 0..4usize {
-        out.push(kind.sum(word.get(i), damage[i]));
-    }
-    out
-}
-
 fn travel<K: Kind>(rt: &impl Print, kind: &K, code: &Code) -> io::Result<()> {
     let word = encode(kind, code, &MESSAGE);
     line(rt, "word", word.as_slice())?;
-    let near = damaged(kind, &word, DAMAGE);
-    let far = damaged(kind, &word, MORE);
+    let near = damaged(kind, &word, &DAMAGE);
+    let far = damaged(kind, &word, &MORE);
     rescue(rt, kind, code, near.as_slice(), &[])?;
     rescue(rt, kind, code, far.as_slice(), &[])?;
     rescue(rt, kind, code, far.as_slice(), &[2])?;

@@ -3,16 +3,8 @@ use codes::Code;
 use fields::Kind;
 use hints::Hints;
 use recovery::recover;
+use shown::line;
 use std::io;
-
-// One line: what the numbers are, and the numbers.
-pub fn line(rt: &impl Print, name: &str, numbers: &[u8]) -> io::Result<()> {
-    print!(rt; "{name}")?;
-    for n in numbers {
-        print!(rt; " {n}")?;
-    }
-    println!(rt; "")
-}
 
 // The symbols of these blocks, of one symbol each, are given up: a column hint for each.
 pub fn rescue<K: Kind>(

@@ -1,8 +1,10 @@
 -- The numbers of refusals.
 --     number_of       the number that the format gives a reason
 --     layer_number_of the number of the layer that refuses
+--     refused_by      a refusal of a layer
 --     at_sheet        a refusal of the layer that reads sheets
-use Rattle.std.specs.Prelude.{ℕ}
+--     line_of         the line that is printed of a refusal
+use Rattle.std.specs.Prelude.{ℕ, List, ◌++◌, codes, decimal}
 use Rattle.sheets.specs.declared.faults.Fault.{Fault}
 use Rattle.sheets.specs.declared.faults.Layer.{Layer}
 use Rattle.sheets.specs.declared.faults.Layer.TheVariants.{Sheet, Code, Station, Job}
@@ -35,5 +37,12 @@ layer_number_of Station = 3
 -- the bytes of a job
 layer_number_of Job = 4
 
+abbrev pub refused_by : Layer → Reason → ℕ → Fault
+refused_by layer reason place = record { reason = reason; layer = layer; place = place }
+
 abbrev pub at_sheet : Reason → ℕ → Fault
-at_sheet reason place = record { reason = reason; layer = Sheet; place = place }
+at_sheet reason place = refused_by Sheet reason place
+
+abbrev pub line_of : Fault → List ℕ
+line_of f =
+    codes "refused " ++ decimal (number_of f.reason) ++ codes " layer " ++ decimal (layer_number_of f.layer) ++ codes " place " ++ decimal f.place

@@ -1,7 +1,10 @@
 // The one record of a refusal, which every layer passes up by `?`: the reason, the layer that refused, and the place of the
 // byte or symbol that was judged.
-ghost use Rattle.std.specs.Prelude.{◌≡◌};
-ghost use Rattle.sheets.specs.Faults.{number_of, layer_number_of};
+ghost use Rattle.std.specs.Prelude.{◌≡◌, Some};
+ghost use Rattle.sheets.specs.Faults.{number_of, layer_number_of, refused_by, line_of};
+
+use std::error::Error;
+use std::fmt;
 
 // Why something is refused. The numbers are part of the format.
 #[derive(Clone, Copy, PartialEq, Eq, Debug)]
@@ -31,6 +34,19 @@ pub struct Fault {
     pub place: usize,
 }
 
+impl Layer {
+    // What this layer says of the byte or symbol at a place.
+    pub fn fault(self, reason: Reason, place: usize) -> Fault
+        ensures { result ≡ refused_by self reason place }
+    {
+        Fault {
+            reason,
+            layer: self,
+            place,
+        }
+    }
+}
+
 impl Fault {
     // The number of the reason.
     pub fn number(&self) -> u8
@@ -46,3 +62,17 @@ impl Fault {
         self.layer as u8
     }
 }
+
+// The line that every program prints of a refusal.
+impl fmt::Display for Fault {
+    ghost output = { λ f. Some (line_of f) };
+
+    fn fmt<W: fmt::Write>(&self, f: &mut fmt::Formatter<W>) -> fmt::Result {
+        let reason = self.number();
+        let layer = self.layer_number();
+        let place = self.place;
+        write!(f, "refused {reason} layer {layer} place {place}")
+    }
+}
+
+impl Error for Fault {}

@@ -2,7 +2,7 @@
 ghost use Rattle.std.specs.Prelude.{◌≡◌};
 ghost use Rattle.sheets.specs.Sections.{part_of, offset_of};
 
-#[derive(Clone, Copy)]
+#[derive(Clone, Copy, PartialEq, Eq, Debug)]
 pub enum Section<'a> {
     Lengths(&'a [u8], usize),
     Parameters(&'a [u8], usize),
@@ -14,9 +14,7 @@ impl<'a> Section<'a> {
         ensures { result.now ≡ part_of self.entry }
     {
         match self {
-            Section::Lengths(part, _) => part,
-            Section::Parameters(part, _) => part,
-            Section::Locators(part, _) => part,
+            Self::Lengths(part, _) | Self::Parameters(part, _) | Self::Locators(part, _) => part,
         }
     }
 
@@ -24,9 +22,7 @@ impl<'a> Section<'a> {
         ensures { result ≡ offset_of self.entry }
     {
         match self {
-            Section::Lengths(_, at) => at,
-            Section::Parameters(_, at) => at,
-            Section::Locators(_, at) => at,
+            Self::Lengths(_, at) | Self::Parameters(_, at) | Self::Locators(_, at) => at,
         }
     }
 }

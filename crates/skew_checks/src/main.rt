@@ -2,102 +2,50 @@
 // generator. What it prints is held to what an unrelated computation printed (reference/skew.py).
 #![tactic(auto)]
 
-ghost use Rattle.std.specs.Prelude.{◌≤◌};
+ghost use Rattle.std.specs.Prelude.{IfOk, ◌≤◌, vec_len};
 
 use brought::Gf256Over16;
+use drills::{Plan, Random};
 use fields::{Gf16, Gf81, Gf256, Kind, Mirror, Mod13};
+use shown::{found, line};
 use skew::{
     MOST, Pair, Point, Polynomial, Site, annihilator, interpolate, left_quotient, pairs, product,
     value,
 };
+use std::alloc::{AllocError, Global};
 use std::io;
 
 #[cfg(test)]
 mod tests;
 
-// A generator of numbers: 32 bits, of which the top byte is drawn.
-#[derive(Drop)]
-struct Random {
-    state: u32,
-}
-
-impl Random {
-    // A symbol of the kind, and now and then the first number that is no code.
-    fn symbol<K: Kind>(&mut self, kind: &K) -> u8 {
-        self.state = self.state.wrapping_mul(1664525).wrapping_add(1013904223);
-        let drawn = (self.state >> 24) as u16;
-        let bound = kind.size().saturating_add(1).clamp(1, 256);
-        ((drawn % bound) & 0xff) as u8
-    }
-
-    fn polynomial<K: Kind>(&mut self, kind: &K, n: usize) -> Polynomial {
-        let mut out = Polynomial::empty();
-        for _i in 0..n {
-            out.push(self.symbol(kind));
-        }
-        out
-    }
-}
-
-// The places of the lawful points in use.
-#[derive(Clone, Copy)]
-struct Course {
-    points: [Point; MOST],
-    len: usize,
-    ghost fits: { len ≤ 24 },
-}
-
-impl Course {
-    // As many blocks, each with the basis for its locators and the next power of the generator for its parameter.
-    fn new<K: Kind>(kind: &K, generator: u8, blocks: usize) -> Course {
-        let none = Point {
-            parameter: 0,
-            locator: 0,
-        };
-        let mut points = [none; MOST];
-        let mut len = 0usize;
-        let mut parameter = 1;
-        for _i in 0..blocks {
-            for j in 0..kind.width() {
-                if len < MOST {
-                    points[len] = Point {
-                        parameter,
-                        locator: kind.basis(j + 1),
-                    };
-                    len += 1;
-                }
-            }
-            parameter = kind.product(parameter, generator);
-        }
-        Course { points, len }
-    }
-
-    fn as_slice(&self) -> &[Point] {
-        &self.points[0..self.len]
-    }
-}
-
-fn line(rt: &HostRuntime, name: &str, numbers: &[u8]) -> io::Result<()> {
-    print!(rt; "{name}")?;
-    for n in numbers {
-        print!(rt; " {n}")?;
-    }
-    println!(rt; "")
-}
-
-fn shown(rt: &HostRuntime, name: &str, f: Option<Polynomial>) -> io::Result<()> {
-    match f {
-        Some(p) => line(rt, name, p.as_slice()),
-        None => println!(rt; "{name} none"),
-    }
-}
-
-fn values<K: Kind>(kind: &K, points: &[Point], f: &Polynomial) -> Polynomial {
+// The first n symbols that are drawn.
+fn drawn<K: Kind>(kind: &K, random: &mut Random, n: usize) -> Polynomial {
     let mut out = Polynomial::empty();
-    for p in points {
-        out.push(value(kind, f.as_slice(), p.parameter, p.locator));
+    for x in random.symbols(kind).take(n) {
+        out.push(x);
     }
     out
+}
+
+// As many blocks, each with the basis for its locators and the next power of the generator for its parameter; no more points than
+// a code can have.
+fn course<K: Kind>(heap: Global, kind: &K, plan: Plan) -> Result<Vec<Point>, AllocError>
+    ensures { IfOk result (λ v. vec_len v ≤ 24) }
+{
+    let mut points = Vec::new(heap);
+    let mut parameter = 1;
+    for _i in 0..plan.blocks {
+        for j in 1..=kind.width() {
+            if points.len() < MOST {
+                points.push(Point {
+                    parameter,
+                    locator: kind.basis(j),
+                })?;
+            }
+        }
+        parameter = kind.product(parameter, plan.generator);
+    }
+    Ok(points)
 }
 
 // At how many points the value of the product is the value of f at the value of g.
@@ -108,15 +56,14 @@ fn agreeing<K: Kind>(
     f: &Polynomial,
     g: &Polynomial,
 ) -> usize {
-    let mut count = 0usize;
-    for p in points {
-        let inner = value(kind, g.as_slice(), p.parameter, p.locator);
-        let outer = value(kind, f.as_slice(), p.parameter, inner);
-        if outer == value(kind, fg.as_slice(), p.parameter, p.locator) {
-            count = count.saturating_add(1);
-        }
-    }
-    count
+    points
+        .iter()
+        .filter(|p| {
+            let inner = value(kind, g.as_slice(), p.parameter, p.locator);
+            let outer = value(kind, f.as_slice(), p.parameter, inner);
+            outer == value(kind, fg.as_slice(), p.parameter, p.locator)
+        })
+        .count()
 }
 
 fn round<K: Kind>(
@@ -126,61 +73,54 @@ fn round<K: Kind>(
     points: &[Point],
 ) -> io::Result<()> {
     let n = points.len();
-    let f = random.polynomial(kind, n / 2 + 1);
-    let g = random.polynomial(kind, n / 2);
-    line(rt, "values", values(kind, points, &f).as_slice())?;
+    let f = drawn(kind, random, n / 2 + 1);
+    let g = drawn(kind, random, n / 2);
+    let values: Vec<u8> = points
+        .iter()
+        .map(|p| value(kind, f.as_slice(), p.parameter, p.locator))
+        .collect(rt.alloc())?;
+    line(rt, "values", values.as_slice())?;
     if let Some(fg) = product(kind, &f, &g) {
         line(rt, "product", fg.as_slice())?;
         println!(rt; "agree {}", agreeing(kind, points, &fg, &f, &g))?;
-        let wanted = random.polynomial(kind, n);
-        shown(
-            rt,
-            "interpolate",
-            interpolate(kind, points, wanted.as_slice()),
-        )?;
-        shown(rt, "quotient", left_quotient(kind, &fg, &f, n / 2))?;
+        let wanted = drawn(kind, random, n);
+        let answer = interpolate(kind, points, wanted.as_slice());
+        found(rt, "interpolate", answer)?;
+        found(rt, "quotient", left_quotient(kind, &fg, &f, n / 2))?;
     }
-    let dividend = random.polynomial(kind, n);
-    shown(rt, "quotient", left_quotient(kind, &dividend, &f, n / 2))
+    let dividend = drawn(kind, random, n);
+    found(rt, "quotient", left_quotient(kind, &dividend, &f, n / 2))
 }
 
 // Whether q0 at the locator plus q1 at the second value is 0 at every site.
 fn vanishes<K: Kind>(kind: &K, q: &Pair, sites: &[Site]) -> bool {
-    for s in sites {
+    sites.iter().all(|s| {
         let x = value(kind, q.q0.as_slice(), s.parameter, s.locator);
         let y = value(kind, q.q1.as_slice(), s.parameter, s.second);
-        if kind.sum(x, y) != 0 {
-            return false;
-        }
-    }
-    true
+        kind.sum(x, y) == 0
+    })
 }
 
 fn paired<K: Kind>(
     rt: &HostRuntime,
     kind: &K,
     random: &mut Random,
-    course: &Course,
+    points: &[Point],
 ) -> io::Result<()> {
-    let none = Site {
-        parameter: 0,
-        locator: 0,
-        second: 0,
-    };
-    let mut sites = [none; MOST];
-    let n = course.len;
-    for i in 0..n {
-        let p = course.points[i];
-        sites[i] = Site {
+    let n = points.len();
+    let sites: Vec<Site> = points
+        .iter()
+        .map(|p| Site {
             parameter: p.parameter,
             locator: p.locator,
             second: random.symbol(kind),
-        };
-    }
-    let Some(s) = pairs(kind, n / 2, &sites[0..n]) else {
+        })
+        .collect(rt.alloc())?;
+    let Some(s) = pairs(kind, n / 2, sites.as_slice()) else {
         return println!(rt; "pairs none");
     };
-    let both = vanishes(kind, &s.first, &sites[0..n]) && vanishes(kind, &s.second, &sites[0..n]);
+    let both = vanishes(kind, &s.first, sites.as_slice())
+        && vanishes(kind, &s.second, sites.as_slice());
     let leads = s.first.q0.get(s.a) != 0 && s.second.q1.get(s.b) != 0;
     println!(rt;
         "pairs {n} {}",
@@ -188,28 +128,29 @@ fn paired<K: Kind>(
     )
 }
 
-fn report<K: Kind>(rt: &HostRuntime, kind: &K, generator: u8, blocks: usize) -> io::Result<()> {
-    let course = Course::new(kind, generator, blocks);
-    println!(rt; "kind {} points {}", kind.number(), course.len)?;
-    let mut random = Random {
-        state: u32::from(kind.number()),
-    };
+fn report<K: Kind>(rt: &HostRuntime, kind: &K, plan: Plan) -> io::Result<()> {
+    let course = course(rt.alloc(), kind, plan)?;
+    let points = course.as_slice();
+    println!(rt; "kind {} points {}", kind.number(), points.len())?;
+    let mut random = Random::seeded(kind.number());
     for _i in 0..3usize {
-        round(rt, kind, &mut random, course.as_slice())?;
+        round(rt, kind, &mut random, points)?;
     }
-    shown(rt, "annihilator", annihilator(kind, course.as_slice()))?;
-    paired(rt, kind, &mut random, &course)
+    found(rt, "annihilator", annihilator(kind, points))?;
+    paired(rt, kind, &mut random, points)
+}
+
+// A kind and its mirror.
+fn both<K: Kind + Copy>(rt: &HostRuntime, kind: K, generator: u8, blocks: usize) -> io::Result<()> {
+    let plan = Plan { generator, blocks };
+    report(rt, &kind, plan)?;
+    report(rt, &Mirror { inner: kind }, plan)
 }
 
 fn main(rt: HostRuntime) -> io::Result<()> {
-    report(&rt, &Gf256, 2, 3)?;
-    report(&rt, &Mirror { inner: Gf256 }, 2, 3)?;
-    report(&rt, &Gf16, 2, 3)?;
-    report(&rt, &Mirror { inner: Gf16 }, 2, 3)?;
-    report(&rt, &Gf81, 3, 2)?;
-    report(&rt, &Mirror { inner: Gf81 }, 3, 2)?;
-    report(&rt, &Mod13, 2, 12)?;
-    report(&rt, &Mirror { inner: Mod13 }, 2, 12)?;
-    report(&rt, &Gf256Over16, 2, 12)?;
-    report(&rt, &Mirror { inner: Gf256Over16 }, 2, 12)
+    both(&rt, Gf256, 2, 3)?;
+    both(&rt, Gf16, 2, 3)?;
+    both(&rt, Gf81, 3, 2)?;
+    both(&rt, Mod13, 2, 12)?;
+    both(&rt, Gf256Over16, 2, 12)
 }

@@ -26,14 +26,11 @@ const LAWFUL: [Point; 4] = [
 
 // The number of points at which f has another value than the one given.
 fn misses<K: Kind>(kind: &K, f: &Polynomial, values: &[u8; 4]) -> usize {
-    let mut count: usize = 0;
-    for i in 0..4usize {
-        let p = LAWFUL[i];
-        if value(kind, f.as_slice(), p.parameter, p.locator) != values[i] && count < 4 {
-            count += 1;
-        }
-    }
-    count
+    LAWFUL
+        .iter()
+        .zip(values)
+        .filter(|(p, v)| value(kind, f.as_slice(), p.parameter, p.locator) != **v)
+        .count()
 }
 
 #[test]

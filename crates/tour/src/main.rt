@@ -5,24 +5,11 @@
 use codes::{Code, Symbols, dual_locators, dual_sheet, encode, message, set_up, syndromes};
 use fields::{Kind, Mod13};
 use ranks::weight;
+use shown::{MESSAGE, Places, SHEET, damaged, line};
 use std::io;
-
-// Kind 4, dimension 2; four blocks of one symbol, their parameters, and the locators.
-const SHEET: [u8; 17] = [4, 2, 4, 1, 1, 1, 1, 4, 1, 2, 3, 4, 4, 1, 1, 1, 1];
-
-const MESSAGE: [u8; 2] = [5, 3];
 
 // What is added to the second symbol of the word.
 const DAMAGE: [u8; 4] = [0, 1, 0, 0];
-
-// One line: what the numbers are, and the numbers.
-fn line(rt: &impl Print, name: &str, numbers: &[u8]) -> io::Result<()> {
-    print!(rt; "{name}")?;
-    for n in numbers {
-        print!(rt; " {n}")?;
-    }
-    println!(rt; "")
-}
 
 fn show<K: Kind>(rt: &impl Print, kind: &K, code: &Code) -> io::Result<()> {
     println!(rt;
@@ -32,20 +19,7 @@ fn show<K: Kind>(rt: &impl Print, kind: &K, code: &Code) -> io::Result<()> {
         code.dimension
     )?;
     line(rt, "lengths", code.lengths.as_slice())?;
-    print!(rt; "points")?;
-    for p in code.course.as_slice() {
-        print!(rt; " {}:{}", p.parameter, p.locator)?;
-    }
-    println!(rt; "")
-}
-
-// The word plus the damage.
-fn damaged<K: Kind>(kind: &K, word: &Symbols) -> Symbols {
-    let mut out = Symbols::empty();
-    for i in 0..4usize {
-        out.push(kind.sum(word.get(i), DAMAGE[i]));
-    }
-    out
+    println!(rt; "points{}", Places(code.course.as_slice()))
 }
 
 // A word: its weight, its syndromes, and its message if it is a codeword.
@@ -82,7 +56,13 @@ fn travel<K: Kind>(rt: &impl Print, kind: &K, code: &Code) -> io::Result<()> {
         line(rt, "dual sheet", sheet.as_slice())?;
     }
     inspect(rt, kind, code, &duals, word.as_slice())?;
-    inspect(rt, kind, code, &duals, damaged(kind, &word).as_slice())
+    inspect(
+        rt,
+        kind,
+        code,
+        &duals,
+        damaged(kind, &word, &DAMAGE).as_slice(),
+    )
 }
 
 fn main(rt: HostRuntime) -> io::Result<()> {

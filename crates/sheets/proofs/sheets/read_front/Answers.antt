@@ -1,21 +1,10 @@
--- Each refusal in the order of reading, and the sheet.
+-- The refusals after the lengths in the order of reading, and the sheet.
 use Rattle.std.proofs.Common.{refl, ap, inl, inr}
 use Rattle.sheets.specs.Sections.{parameters, locators}
 use Rattle.std.proofs.lemmas.Result.{err_from_is_err_and}
-use Rattle.sheets.proofs.Fronts.{blocks_stop, lengths_stop, dimension_stops, opened, parameters_stop, locators_stop, parameters_place, locators_place, begins}
+use Rattle.sheets.proofs.Fronts.{dimension_stops, opened, parameters_stop, locators_stop, parameters_place, locators_place, begins}
 use Rattle.sheets.proofs.sheets.read_front.Goals as goal
 use Rattle.sheets.proofs.sheets.read_front.Goals.{then-dimension-lt1-via-then-dimension-lt1, then-dimension-lt1-via-else-dimension-lt1+then-dimension-total}
-
-pub returns-in_err-blocks : goal.returns-in_err-blocks
-returns-in_err-blocks c =
-    let p = err_from_is_err_and c.from_residual-in_err-blocks.result c.from_residual-in_err-blocks.ensures.1 in
-    rw (p.1, p.2) (blocks_stop c.in_ok-dimension.ensures c.in_err-blocks.ensures)
-
-pub returns-in_err-lengths : goal.returns-in_err-lengths
-returns-in_err-lengths c =
-    let p = err_from_is_err_and c.from_residual-in_err-lengths.result c.from_residual-in_err-lengths.ensures.1 in
-    rw (p.1, p.2)
-    (lengths_stop c.in_ok-dimension.ensures c.in_ok-blocks.ensures c.in_err-lengths.ensures)
 
 pub returns-then-dimension-lt1 : goal.returns-then-dimension-lt1
 returns-then-dimension-lt1 c =

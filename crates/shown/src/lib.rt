@@ -1,0 +1,10 @@
+// What several programs show: numbers and points in a row, lines, and the two codes that all documents use.
+#![tactic(auto)]
+
+mod documents;
+mod lines;
+mod rows;
+
+pub use documents::{MESSAGE, SECOND_SHEET, SHEET, damaged};
+pub use lines::{Listed, found, line};
+pub use rows::{Places, Row};
