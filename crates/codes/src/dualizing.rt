@@ -3,7 +3,6 @@ ghost use Rattle.std.specs.Prelude.{◌≡◌, ◌≤◌, length, MatchOption};
 ghost use Rattle.fields.specs.Elements.{elems, ops};
 ghost use Rattle.skew.specs.Annihilators.{places};
 ghost use Rattle.codes.specs.Holdings.{held, stops};
-ghost use Rattle.fields.specs.Mirror.{across as across_of};
 ghost use Rattle.codes.specs.Duals.{dual_points};
 ghost use Rattle.codes.specs.Writing.{written};
 ghost use Rattle.codes.specs.Dualizing.{turned_points, Dualized, DualSheet, Undual};
@@ -12,7 +11,7 @@ use super::duals::dual_locators;
 use super::lists::{Course, SheetBytes, Symbols};
 use super::shape::Code;
 use super::writing::write_sheet;
-use fields::Kind;
+use fields::{Kind, across};
 use skew::Point;
 
 // The points of the dual code: the untwisted parameters with the dual locators.
@@ -49,17 +48,6 @@ pub fn dual<K: Kind>(kind: &K, code: &Code) -> Option<Code>
         lengths: code.lengths,
         course,
     })
-}
-
-// The number of the mirror of a kind.
-fn across(number: u8) -> u8
-    ensures { result ≡ across_of number }
-{
-    if number < 128 {
-        number + 128
-    } else {
-        number - 128
-    }
 }
 
 // The sheet of the dual code over the mirror: 5 + 2l + n bytes. Nothing where k is n.

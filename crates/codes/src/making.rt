@@ -47,16 +47,6 @@ fn first_related<K: Kind>(kind: &K, parameters: &[u8]) -> Option<usize>
     None
 }
 
-fn fault(reason: Reason, place: usize) -> Fault
-    ensures { result ≡ at_code reason place }
-{
-    Fault {
-        reason,
-        layer: Layer::Code,
-        place,
-    }
-}
-
 // The locators of one block, each with the parameter of the block.
 fn extend(course: &mut Course, parameter: u8, locators: &[u8])
     ensures { stops course.new ≡ take 24 (stops course.old ++ map (pointed parameter) locators.now) }
@@ -90,7 +80,7 @@ fn gather<K: Kind>(
         let size = usize::from(*n);
         let part = &locators[at..at + size];
         if let Some(j) = dependent_at(kind, part) {
-            return Err(fault(Reason::Dependent, base + (at + j)));
+            return Err(Layer::Code.fault(Reason::Dependent, base + (at + j)));
         }
         extend(&mut course, *parameter, part);
         at += size;
@@ -117,13 +107,13 @@ fn make<K: Kind>(kind: &K, sheet: Sheet<'_>) -> Result<Code, Fault>
     let parameters = sheet.parameters.bytes();
     let locators = sheet.locators.bytes();
     if let Some(i) = first_outside(kind, parameters, 1) {
-        return Err(fault(Reason::NoCode, sheet.parameters.offset() + i));
+        return Err(Layer::Code.fault(Reason::NoCode, sheet.parameters.offset() + i));
     }
     if let Some(i) = first_outside(kind, locators, 0) {
-        return Err(fault(Reason::NoCode, sheet.locators.offset() + i));
+        return Err(Layer::Code.fault(Reason::NoCode, sheet.locators.offset() + i));
     }
     if let Some(j) = first_related(kind, parameters) {
-        return Err(fault(Reason::Conjugate, sheet.parameters.offset() + j));
+        return Err(Layer::Code.fault(Reason::Conjugate, sheet.parameters.offset() + j));
     }
     let course = gather(kind, lengths, parameters, locators, sheet.locators.offset())?;
     Ok(Code {
