@@ -5,20 +5,18 @@
 --   every f ds         the test passes at each number of the list
 --   rows n from f      it passes at each row of n numbers taken from a list
 --   DigitLaws m       what a kind owes of its digits
-use Rattle.std.specs.Prelude.{◌≡◌, ℕ, suc, Bool, true, false, cond, T, List, [], ◌∷◌, length, ◌==◌, nat_lt, refl}
+use Rattle.std.specs.Prelude.{◌≡◌, ℕ, suc, Bool, true, false, cond, T, List, [], ◌∷◌, length, ◌==◌, nat_eq, nat_lt, refl}
 use Rattle.std.proofs.Common.{sym, ap, ap₂, ◌∙◌, subst, arith, eqb→eq, ltb→lt}
 use Rattle.std.proofs.lemmas.Bool.{eq-eqb, cond-true}
 use Rattle.std.proofs.Math.Bool.{◌||◌}
+use Rattle.std.specs.Cmp.Lexicographic.{pointwise}
 use Rattle.std.specs.List.{list_any, list_all as every}
 use Rattle.fields.specs.Lists.{All, all_follow}
 use Rattle.fields.specs.Meaning.{Meaning, Code, Fixed, combined}
 use Rattle.fields.specs.Range.{both, both_left, both_right, below, at}
 
 abbrev pub same : List ℕ → List ℕ → Bool
-same [] [] = true
-same [] (y ∷ ys) = false
-same (x ∷ xs) [] = false
-same (x ∷ xs) (y ∷ ys) = both (x == y) (same xs ys)
+same = pointwise nat_eq
 
 pub same_is : (xs ys : List ℕ) → T (same xs ys) → xs ≡ ys
 same_is [] [] t = refl

@@ -63,7 +63,7 @@ pub trait Kind {
     fn basis(&self, j: usize) -> u8
         ensures { result ≡ basis_at (meaning self.now) j };
 
-    // The m fixed digits with which the basis combines to a, and then zeros.
+    // The m fixed digits with which the basis combines to a, and then zeros: eight places for every kind, since nothing allocates.
     fn digits(&self, a: u8) -> [u8; 8]
         ensures { result ≡ digit_row (meaning self.now) a };
 
