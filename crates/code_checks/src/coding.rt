@@ -1,99 +1,13 @@
 // What is done with codes, on drawn codes and drawn words.
-use crate::drafts::{Draft, norm};
+use crate::desk::Desk;
+use crate::drafts::Draft;
 use crate::showing::judged;
-use crate::words::{Words, cut, drawn, product_sum, spoiled, zeros};
-use codes::{Code, Course, SheetBytes, Symbols, dual_locators, encode, message, set_up, syndromes};
+use crate::words::{Words, drawn, product_sum};
+use codes::{SheetBytes, Symbols, dual_locators, encode, set_up};
 use drills::{Plan, Random};
 use fields::Kind;
-use ranks::{rank, weight};
 use shown::{found, line};
 use std::io;
-
-// A code over a kind, and where its answers are printed.
-#[derive(Clone, Copy)]
-struct Desk<'a, K> {
-    rt: &'a HostRuntime,
-    kind: &'a K,
-    code: &'a Code,
-}
-
-impl<K: Kind> Desk<'_, K> {
-    fn read(&self, name: &str, word: &Symbols) -> io::Result<()> {
-        found(
-            self.rt,
-            name,
-            message(self.kind, self.code, word.as_slice()),
-        )
-    }
-
-    fn messages(&self, random: &mut Random) -> io::Result<Words> {
-        let n = self.code.course.len();
-        let sent = drawn(self.kind, random, self.code.dimension);
-        line(self.rt, "sent", sent.as_slice())?;
-        let good = encode(self.kind, self.code, sent.as_slice());
-        line(self.rt, "word", good.as_slice())?;
-        self.read("message", &good)?;
-        let place = random.place(n);
-        let near = spoiled(self.kind, &good, place, random.unit(self.kind));
-        self.read("near", &near)?;
-        let any = drawn(self.kind, random, n);
-        self.read("any", &any)?;
-        self.read("short", &cut(&good))?;
-        let long = encode(self.kind, self.code, any.as_slice());
-        line(self.rt, "long", long.as_slice())?;
-        self.read("message", &long)?;
-        Ok(Words { good, near, any })
-    }
-
-    fn weigh(&self, name: &str, word: &Symbols) -> io::Result<()> {
-        let lengths = self.code.lengths.as_slice();
-        found(self.rt, name, weight(self.kind, lengths, word.as_slice()))
-    }
-
-    // Weights of a codeword, of any word, of one with two symbols, of one with rank at most 1 in each block, of nothing but 0, and
-    // of one symbol too few.
-    fn weights(&self, random: &mut Random, words: &Words) -> io::Result<()> {
-        let n = self.code.course.len();
-        let zero = zeros(n);
-        let place = random.place(n);
-        let sparse = spoiled(self.kind, &zero, place, random.unit(self.kind));
-        let place = random.place(n);
-        let sparse = spoiled(self.kind, &sparse, place, random.unit(self.kind));
-        let by = random.unit(self.kind);
-        let mut narrow = Symbols::empty();
-        for x in random.symbols(self.kind).take(n) {
-            narrow.push(self.kind.product(by, norm(self.kind, x)));
-        }
-        self.weigh("weight", &words.good)?;
-        self.weigh("weight", &words.any)?;
-        self.weigh("sparse", &sparse)?;
-        self.weigh("narrow", &narrow)?;
-        self.weigh("zero", &zero)?;
-        self.weigh("short", &cut(&words.any))?;
-        let all = rank(self.kind, words.any.as_slice());
-        println!(self.rt; "ranks {all} {}", rank(self.kind, narrow.as_slice()))
-    }
-
-    fn checked(&self, duals: &Symbols, k: usize, word: &Symbols) -> io::Result<()> {
-        let points = self.code.course.as_slice();
-        let s = syndromes(self.kind, points, duals.as_slice(), k, word.as_slice());
-        found(self.rt, "syndromes", s)
-    }
-
-    // Syndromes of the words; nothing where a row or k has not its length.
-    fn checks(&self, duals: &Symbols, words: &Words) -> io::Result<()> {
-        let k = self.code.dimension;
-        self.checked(duals, k, &words.good)?;
-        self.checked(duals, k, &words.near)?;
-        self.checked(duals, k, &words.any)?;
-        self.checked(duals, k, &cut(&words.good))?;
-        self.checked(&cut(duals), k, &words.good)?;
-        let over = self.code.course.len().saturating_add(1);
-        self.checked(duals, over, &words.good)?;
-        let none = dual_locators(self.kind, Course::empty().as_slice());
-        found(self.rt, "no duals", none)
-    }
-}
 
 // The dual of a code as a draft for the mirror: untwisted parameters, and the dual locators.
 fn dual<K: Kind>(kind: &K, draft: &Draft, duals: &Symbols) -> Draft {

@@ -12,6 +12,7 @@ use std::io;
 
 mod bytes;
 mod coding;
+mod desk;
 mod drafts;
 mod figures;
 mod judging;
@@ -26,23 +27,18 @@ fn one<K: Kind, M: Kind>(rt: &HostRuntime, kind: &K, mirror: &M, plan: Plan) -> 
 }
 
 // A kind and its mirror, each of which is the mirror of the other.
-fn both<K: Kind, M: Kind>(
-    rt: &HostRuntime,
-    kind: &K,
-    mirror: &M,
-    generator: u8,
-    blocks: usize,
-) -> io::Result<()> {
+fn both<K: Kind + Copy>(rt: &HostRuntime, kind: K, generator: u8, blocks: usize) -> io::Result<()> {
     let plan = Plan { generator, blocks };
-    one(rt, kind, mirror, plan)?;
-    one(rt, mirror, kind, plan)
+    let mirror = Mirror { inner: kind };
+    one(rt, &kind, &mirror, plan)?;
+    one(rt, &mirror, &kind, plan)
 }
 
 fn main(rt: HostRuntime) -> io::Result<()> {
-    both(&rt, &Gf256, &Mirror { inner: Gf256 }, 2, 3)?;
-    both(&rt, &Gf16, &Mirror { inner: Gf16 }, 2, 3)?;
-    both(&rt, &Gf81, &Mirror { inner: Gf81 }, 3, 2)?;
-    both(&rt, &Mod13, &Mirror { inner: Mod13 }, 2, 12)?;
-    both(&rt, &Gf256Over16, &Mirror { inner: Gf256Over16 }, 2, 12)?;
+    both(&rt, Gf256, 2, 3)?;
+    both(&rt, Gf16, 2, 3)?;
+    both(&rt, Gf81, 3, 2)?;
+    both(&rt, Mod13, 2, 12)?;
+    both(&rt, Gf256Over16, 2, 12)?;
     figures(&rt)
 }
