@@ -90,7 +90,7 @@ module _ {m : Meaning} (l : Laws m) where
   )
 
   -- No block yet.
-  pub parted_starts : {ns : List ℕ} {gs : List (Given (Elem m))} {d : List ℕ} {p : PartsCodes} → held p.full ≡ [] → held p.row ≡ [] → held p.column ≡ [] → Divided ns d → Parted m ns gs d 0 0 p
+  parted_starts : {ns : List ℕ} {gs : List (Given (Elem m))} {d : List ℕ} {p : PartsCodes} → held p.full ≡ [] → held p.row ≡ [] → held p.column ≡ [] → Divided ns d → Parted m ns gs d 0 0 p
   parted_starts ef er ec v = record {
     ends = omega (arith, v.sum);
     so_far = record { full = []; row = []; column = [] };
@@ -101,7 +101,7 @@ module _ {m : Meaning} (l : Laws m) where
   }
 
   -- The place where block i ends.
-  pub parted_room : {ns : List ℕ} {gs : List (Given (Elem m))} {d : List ℕ} {i at : ℕ} {p : PartsCodes} → i < length ns → Parted m ns gs d i at p → at + get_or ns i 0 + total (drop (i + 1) ns) ≡ length d
+  parted_room : {ns : List ℕ} {gs : List (Given (Elem m))} {d : List ℕ} {i at : ℕ} {p : PartsCodes} → i < length ns → Parted m ns gs d i at p → at + get_or ns i 0 + total (drop (i + 1) ns) ≡ length d
   parted_room {ns} {gs} {d} {i} {at} lt k =
       ap (λ j. at + get_or ns i 0 + total (drop j ns)) (add-one i) ∙ add_assoc at (get_or ns i 0) (total (drop (suc i) ns)) ∙ ap (λ t. at + t) (sym (ap total (drop-cons ns i 0 lt))) ∙ k.ends
 
@@ -164,7 +164,7 @@ module _ {m : Meaning} (l : Laws m) where
           (subst (λ j. Lightest (ops m) (drop j gs) (cut (drop j ns) (drop (at + n) (elems m d))) (parts_from (drop j ns) f r c)) (add-one i) h))))
 
   -- One block more.
-  pub parted_goes_on : {ns : List ℕ} {k : ℕ} {h : Hints} {gs : List (Given (Elem m))} {d : List ℕ} {i at : ℕ} {p q : PartsCodes} {n : ℕ} {e : List ℕ} → Holds m ns k h gs → Divided ns d → i < length ns → n ≡ get_or ns i 0
+  parted_goes_on : {ns : List ℕ} {k : ℕ} {h : Hints} {gs : List (Given (Elem m))} {d : List ℕ} {i at : ℕ} {p q : PartsCodes} {n : ℕ} {e : List ℕ} → Holds m ns k h gs → Divided ns d → i < length ns → n ≡ get_or ns i 0
       → e ≡ take n (drop at d) → ((g : Given (Elem m)) → BlockHolds m (length e) (get_or h.blocks i no_block) g → BlockSplit m e g p q) → Parted m ns gs d i at p → Parted m ns gs d (i + 1) (at + n) q
   parted_goes_on {ns} {k} {h} {gs} {d} {i} {at} {p} {q} {n} {e} holds v lt en ee split w =
       parted_block v holds.size lt en ee (split (get_or gs i (no_hints m)) (subst (λ j. BlockHolds m j (get_or h.blocks i no_block) (get_or gs i (no_hints m))) (sym long) (holds.blocks i lt))) w

@@ -264,10 +264,6 @@ module _ {m : Meaning} (l : Laws m) where
   all_eight_more [] a = refl
   all_eight_more (x ∷ xs) a = cons_path refl (all_eight_more xs a)
 
-  -- No symbols, and no rows.
-  pub spanning_starts : {f : Form} → InForm m f × (rows_of m f ≡ []) → Spanning [] f
-  spanning_starts {f} k = record { form = k.0; gives = tt; given = subst (All (AmongRows (ops m) 8 [])) (sym k.1) tt }
-
   module _ {xs : List ℕ} {f : Form} (a : ℕ) (s : Spanning xs f) where
     -- The digits with one symbol more.
     abbrev more : List (List (Elem m))
@@ -313,10 +309,6 @@ module _ {m : Meaning} (l : Laws m) where
     pub rows : n ≡ length (rows_of m f)
     pub few : n ≤ length xs
 
-  -- No symbols.
-  pub counting_starts : {f : Form} → InForm m f × (rows_of m f ≡ []) → Counting [] f 0
-  counting_starts k = record { spanning = spanning_starts k; rows = sym (ap length k.1); few = omega arith }
-
   -- What `insert` promises, told of the symbol.
   insert_says : {xs : List ℕ} {f : Form} (g : Form) (r : Bool) (ds : List ℕ) (a : ℕ) → Spanning xs f → ds ≡ digit_row m a
       → (InForm m f → Row (ops m) 8 (elems m ds) → Inserted m f (elems m ds) r g) → Inserted m f (eight m (elem m a)) r g
@@ -361,10 +353,6 @@ module _ {m : Meaning} (l : Laws m) where
     pub spanning : Spanning xs f
     pub free : Independent (ops m) (elems m xs)
 
-  -- No locators.
-  pub free_starts : {f : Form} → InForm m f × (rows_of m f ≡ []) → Free [] f
-  free_starts k = record { spanning = spanning_starts k; free = Spans.ind_nil laws }
-
   -- A locator more that was put in.
   pub free_goes_on : (ys : List ℕ) {i : ℕ} {f : Form} (g : Form) (r : Bool) (ds : List ℕ) → i < length ys → Free (take i ys) f → ds ≡ digit_row m (get_or ys i 0)
       → (InForm m f → Row (ops m) 8 (elems m ds) → Inserted m f (elems m ds) r g) → r ≡ true → Free (take (i +ℕ 1) ys) g
@@ -392,7 +380,3 @@ module _ {m : Meaning} (l : Laws m) where
       parts : elems m ys ≡ elems m (take i ys) ++ elem m (get_or ys i 0) ∷ elems m (drop (suc i) ys)
       parts =
           ap (elems m) (sym (take-append-drop i ys) ∙ ap (λ w. take i ys ++ w) (drop-cons ys i 0 lt)) ∙ map-append (elem m) (take i ys) (get_or ys i 0 ∷ drop (suc i) ys)
-
-  -- None is.
-  pub free_ends : (ys : List ℕ) {i : ℕ} {f : Form} → length ys ≤ i → Free (take i ys) f → Independent (ops m) (elems m ys)
-  free_ends ys {i} {f} le k = subst (λ w. Independent (ops m) (elems m w)) (take_all i ys le) k.free

@@ -80,10 +80,6 @@ module _ {m : Meaning} (l : Laws m) where
   laws : field.Laws (ops m)
   laws = Carrier.ops_laws l
 
-  -- Nothing is cleared yet.
-  clearing_starts : (slots : List (Option RowCodes)) (h : List (Elem m)) → length h ≡ 8 → Clearing m slots h h 0
-  clearing_starts slots h e = record { size = e; is = ap (λ n. plus (ops m) h (map neg (mix (ops m) n (map (row m) (in_use slots)) (pick (map is_some slots) h)))) (sym e) }
-
   -- A place that is not in use is passed.
   clearing_skips : {slots : List (Option RowCodes)} {h left : List (Elem m)} {p : ℕ} → p < 8 → length slots ≡ 8 → length h ≡ 8 → get_or slots p None ≡ None
       → Clearing m slots h left p → Clearing m slots h left (p + 1)
@@ -167,10 +163,6 @@ module _ {m : Meaning} (l : Laws m) where
             | inr ge ↦ get_or-eq_default (elems m out) zero (omega (arith, size)) ∙ sym (get_or-eq_default sum zero (omega (arith, long)))
           ]
 
-  -- No place was looked at.
-  pub seeking_starts : {h : List ℕ} → Seeking m h 0
-  seeking_starts = record { none = λ k lt. absurd (omega arith) }
-
   -- A place without an inverse is zero.
   pub seeking_goes_on : {h : List ℕ} {i : ℕ} → Seeking m h i → None ≡ inverted m (get_or h i 0) → Seeking m h (i + 1)
   seeking_goes_on {h} {i} k e = record { none = below_more _ i k.none (Growing.inverse_none l (get_or h i 0) e) }
@@ -186,10 +178,6 @@ module _ {m : Meaning} (l : Laws m) where
   seeking_ends {h} {i} le e k =
       Multiplication.of_coef laws (elems m h)
       (λ j. elim (cases_lt j 8) [ inl lt ↦ sym (Carrier.elem_at m h j) ∙ k.none j (omega arith) | inr ge ↦ get_or-eq_default (elems m h) (ops m).zero (omega (arith, length-map h (elem m))) ])
-
-  -- No row is swept yet.
-  pub sweeping_starts : (rows : List (Option RowCodes)) (p : ℕ) (h : List (Elem m)) → Sweeping m rows p h 0 rows
-  sweeping_starts rows p h = record { size = refl; done = λ k lt. absurd (omega arith); ahead = λ k le. refl }
 
   -- One place more.
   pub sweeping_goes_on : {rows new : List (Option RowCodes)} {p : ℕ} {h : List (Elem m)} {i : ℕ} (s : Option RowCodes) → i < length new → Sweeping m rows p h i new
@@ -231,10 +219,6 @@ module _ {m : Meaning} (l : Laws m) where
   -- What a form and a row are like while the row is cleared, where the form is one.
   abbrev pub ClearedTo : Form → RowCodes → RowCodes → ℕ → Type 0
   ClearedTo f h left p = InForm m f → Clearing m f.rows (row m h) (row m left) p
-
-  -- The row itself, at first.
-  pub clear_starts : (f : Form) (h : RowCodes) → length h.cells ≡ 8 → ClearedTo f h h 0
-  clear_starts f h e k = clearing_starts f.rows (row m h) (length-map h.cells (elem m) ∙ e)
 
   -- A place that is not in use.
   pub clear_skips : (f : Form) (h left : RowCodes) {p : ℕ} → p < 8 → length h.cells ≡ 8 → get_or f.rows p None ≡ None → ClearedTo f h left p → ClearedTo f h left (p + 1)

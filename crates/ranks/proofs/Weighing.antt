@@ -1,7 +1,7 @@
 -- The weight of a word, block after block; ranks and weights exist and are one.
 --
 --   Weighing m ns w i rest sum    the first i blocks weigh `sum`, and `rest` stands behind them
-use Rattle.std.proofs.Common.{◌≡◌, ℕ, suc, ◌+◌, ◌<◌, ◌≤◌, Bool, true, false, List, [], ◌∷◌, map, length, get_or, take, drop, sym, refl, ap, ◌∙◌, subst, add_assoc, zero-add, add-one, arith, length-drop, length-take-le, drop-cons}
+use Rattle.std.proofs.Common.{◌≡◌, ℕ, suc, ◌+◌, ◌<◌, ◌≤◌, Bool, true, false, List, [], ◌∷◌, map, length, get_or, take, drop, sym, refl, ap, ◌∙◌, subst, add_assoc, add-one, arith, length-drop, length-take-le, drop-cons}
 use Rattle.std.proofs.lemmas.List.{length-map}
 use Rattle.std.proofs.lemmas.List.{drop_all}
 use Rattle.fields.specs.Field.{Ops, Laws}
@@ -23,10 +23,6 @@ pub record Weighing (m : Meaning) (ns w : List ℕ) (i : ℕ) (rest : List ℕ) 
   pub ahead : (u : ℕ) → Weighs (ops m) (map (elems m) (cut (drop i ns) rest)) u → Weighs (ops m) (map (elems m) (cut ns w)) (sum + u)
 
 module _ (m : Meaning) where
-  -- No block was weighed.
-  pub weighing_starts : (ns w : List ℕ) → Weighing m ns w 0 w 0
-  weighing_starts ns w = record { balance = omega arith; few = omega arith; ahead = λ u k. subst (Weighs (ops m) (map (elems m) (cut ns w))) (sym (zero-add u)) k }
-
   -- The rank of a block is at most its length.
   rank_few : (xs : List ℕ) (r : ℕ) → IsRank (ops m) (elems m xs) r → r ≤ length xs
   rank_few xs r k = omega (arith, k.0.2, pick_few k.0.0 (elems m xs), length-map xs (elem m))

@@ -1,10 +1,7 @@
-use Rattle.std.proofs.Common.{◌+◌, take, sym, subst, arith, length-take-le}
-use Rattle.ranks.proofs.Ranking.{Counting, counting_starts, counting_more, counting_ends}
+use Rattle.std.proofs.Common.{◌+◌, take, sym, subst}
+use Rattle.ranks.proofs.Ranking.{Counting, counting_more, counting_ends}
 use Rattle.ranks.proofs.ranks.rank.Goals as goal
 use Rattle.ranks.proofs.ranks.rank.Goals.{then-more, else-more}
-
-pub loop-x-init : goal.loop-x-init
-loop-x-init g c = counting_starts (g.met.K.Kind.lawful c.args.kind.now) (c.empty-form.ensures (g.K.Kind.meaning c.args.kind.now))
 
 pub loop-x-preserved : goal.loop-x-preserved
 loop-x-preserved g c =
@@ -15,9 +12,6 @@ loop-x-preserved g c =
       | then-more w ↦ subst (Counting l xs c.insert-more.new.self) (sym w.count-is) (k.0 w.if-more.true)
       | else-more w ↦ subst (Counting l xs c.insert-more.new.self) (sym w.count-is) (k.1 w.if-more.false)
     ]
-
-pub overflow_add-count : goal.overflow_add-count
-overflow_add-count g c = omega (arith, c.loop-x-test.true, c.loop-x.invariant.few, length-take-le c.loop-x.x-index c.args.symbols.now (omega arith))
 
 pub returns : goal.returns
 returns g c = counting_ends (g.met.K.Kind.lawful c.args.kind.now) c.args.symbols.now c.loop-x-test.false c.loop-x.invariant

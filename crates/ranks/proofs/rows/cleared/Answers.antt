@@ -2,11 +2,8 @@ use Rattle.std.proofs.Common.{◌≡◌, length, sym, ◌∙◌, subst, arith, r
 use Rattle.std.proofs.lemmas.List.{length_push}
 use Rattle.std.proofs.lemmas.Slice.Zip.{zip_turn, zip_end}
 use Rattle.fields.specs.Meaning.{clip}
-use Rattle.ranks.proofs.Reducing.{ClearedTo, clear_starts, clear_skips, clear_goes_on, clear_ends}
+use Rattle.ranks.proofs.Reducing.{ClearedTo, clear_skips, clear_goes_on, clear_ends}
 use Rattle.ranks.proofs.rows.cleared.Goals as goal
-
-pub loop-slot-init : goal.loop-slot-init
-loop-slot-init g c = clear_starts (g.met.K.Kind.lawful c.args.kind.now) c.args.form.now c.args.row.now (search rules)
 
 pub loop-slot-preserved : goal.loop-slot-preserved
 loop-slot-preserved g c =

@@ -1,9 +1,6 @@
 use Rattle.std.proofs.Common.{rules}
-use Rattle.ranks.proofs.Reducing.{seeking_starts, seeking_goes_on, seeking_finds, seeking_ends}
+use Rattle.ranks.proofs.Reducing.{seeking_goes_on, seeking_finds, seeking_ends}
 use Rattle.ranks.proofs.rows.leading.Goals as goal
-
-pub loop-place-init : goal.loop-place-init
-loop-place-init g c = seeking_starts (g.met.K.Kind.lawful c.args.kind.now)
 
 pub loop-place-preserved : goal.loop-place-preserved
 loop-place-preserved g c = seeking_goes_on (g.met.K.Kind.lawful c.args.kind.now) c.loop-place.invariant c.in_default.ensures

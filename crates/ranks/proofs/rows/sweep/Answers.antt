@@ -1,11 +1,8 @@
 use Rattle.std.proofs.Common.{◌≡◌, ◌+◌, ◌<◌, length, Some, sym, subst, arith, rules}
 use Rattle.ranks.specs.Reduction.{row}
-use Rattle.ranks.proofs.Reducing.{SlotSwept, Sweeping, sweeping_starts, sweeping_goes_on, row_swept, sweeping_ends}
+use Rattle.ranks.proofs.Reducing.{SlotSwept, Sweeping, sweeping_goes_on, row_swept, sweeping_ends}
 use Rattle.ranks.proofs.rows.sweep.Goals as goal
 use Rattle.ranks.proofs.rows.sweep.Goals.{in-Some, in_default}
-
-pub loop-slot-init : goal.loop-slot-init
-loop-slot-init g c = sweeping_starts (g.met.K.Kind.lawful c.args.kind.now) c.args.form.now.rows c.args.p (row (g.K.Kind.meaning c.args.kind.now) c.args.by.now)
 
 pub loop-slot-preserved : goal.loop-slot-preserved
 loop-slot-preserved g c =
