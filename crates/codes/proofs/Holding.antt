@@ -1,9 +1,9 @@
 -- A list of symbols that is filled from the front.
 --
 --   Filling X i s    s holds the codes of the first i elements of X, as far as there is room
-use Rattle.std.proofs.Common.{◌≡◌, ℕ, ◌+◌, ◌<◌, ◌≤◌, List, [], ◌∷◌, ◌++◌, length, get_or, take, set, sym, ap, ◌∙◌, arith}
+use Rattle.std.proofs.Common.{◌≡◌, ℕ, ◌+◌, ◌<◌, ◌≤◌, List, [], ◌∷◌, ◌++◌, length, get_or, take, sym, ap, ◌∙◌, arith}
 use Rattle.std.proofs.lemmas.List.{length-map}
-use Rattle.std.proofs.lemmas.List.{take_more, take_more_set, take_all, take_at, length-take, length_push, get_or-map}
+use Rattle.std.proofs.lemmas.List.{take_more, take_all, get_or-map}
 use Rattle.fields.specs.Elements.{Element, codes}
 use Rattle.skew.proofs.Filling.{take_cut}
 

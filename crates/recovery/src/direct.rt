@@ -51,6 +51,7 @@ fn other_sites<K: Kind>(
 {
     let points = code.course.as_slice();
     let mut out = Spots::empty();
+    // by index, since three rows are read at one place
     for i in code.dimension..points.len() {
         let here = value(kind, f.as_slice(), points[i].parameter, points[i].locator);
         let minus = kind.opposite(here);

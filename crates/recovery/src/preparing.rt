@@ -17,6 +17,7 @@ pub fn prepare<K: Kind>(kind: &K, code: &Code) -> Option<Prepared>
     let top = annihilator(kind, first)?;
     let values = encode(kind, code, top.as_slice());
     let mut units = [Polynomial::empty(); 24];
+    // by index, which is what `unit` is asked for
     for j in 0..code.dimension {
         let f = unit(kind, first, j)?;
         units[j] = f;

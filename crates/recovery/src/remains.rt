@@ -47,6 +47,7 @@ fn add_sites<K: Kind>(
     let locators = cleared(kind, columns, &places);
     let received = row_of(symbols);
     let left = cleared(kind, columns, &received);
+    // by index, since a form and two rows are read at one place
     for p in 0..points.len() {
         if columns.rows[p].is_none() {
             let second = value(kind, killer.as_slice(), parameter, left.cells[p]);

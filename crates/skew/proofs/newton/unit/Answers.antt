@@ -1,4 +1,3 @@
-use Rattle.std.proofs.Common.{rules, arith}
 use Rattle.skew.proofs.Interpolating.{indicated, unit_told}
 use Rattle.skew.proofs.newton.unit.Goals as goal
 
