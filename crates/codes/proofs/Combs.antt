@@ -4,7 +4,7 @@
 --   series o u f     the sum of f_i × u_i
 use Rattle.std.proofs.Common.{◌≡◌, ℕ, suc, ◌<◌, ◌≤◌, List, [], ◌∷◌, map, length, sym, refl, ap, ◌∙◌, arith}
 use Rattle.std.proofs.lemmas.List.{length-map}
-use Rattle.fields.specs.Lists.{All}
+use Rattle.std.specs.List.{AllByRecursion}
 use Rattle.fields.specs.Field.{Ops, Laws, Zero, comb}
 use Rattle.fields.specs.Basics
 use Rattle.fields.specs.Basics.{ring}
@@ -26,7 +26,7 @@ module _ {F : Type 0} {o : Ops F} (l : Laws o) where
   comb_comm (x ∷ xs) (y ∷ ys) = ap (λ w. w + comb o xs ys) (Basics.mul_comm l x y) ∙ ap (λ w. y * x + w) (comb_comm xs ys)
 
   -- A row of zeros.
-  pub comb_null : (xs ys : List F) → All (Zero o) ys → comb o xs ys ≡ zero
+  pub comb_null : (xs ys : List F) → AllByRecursion (Zero o) ys → comb o xs ys ≡ zero
   comb_null [] ys h = refl
   comb_null (x ∷ xs) [] h = refl
   comb_null (x ∷ xs) (y ∷ ys) h = ap (λ w. x * w + comb o xs ys) h.0 ∙ ap (λ w. x * zero + w) (comb_null xs ys h.1) ∙ simp (ring, l)

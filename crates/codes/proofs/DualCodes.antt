@@ -10,7 +10,7 @@
 --   normalised pts      the locators, divided by the first
 use Rattle.std.proofs.Common.{◌≡◌, ℕ, suc, ◌+◌ as ◌+ℕ◌, ◌-◌, ◌≤◌, ◌≢◌, ◌↔◌, List, [], ◌∷◌, ◌++◌, map, length, take, drop, sym, refl, ap, ◌∙◌, subst, arith, length-append, length-drop, length-take}
 use Rattle.std.proofs.lemmas.List.{length-map}
-use Rattle.fields.specs.Lists.{All}
+use Rattle.std.specs.List.{AllByRecursion}
 use Rattle.fields.specs.Field.{Ops, Laws, mirror, Zero, Fixed, scale, comb}
 use Rattle.fields.specs.Basics
 use Rattle.fields.specs.Basics.{ring}
@@ -67,7 +67,7 @@ module _ {F : Type 0} {o : Ops F} (l : Laws o) where
   killed_zeros c (t ∷ pts) = (Evaluation.eval_zero l t.0 (linear o c), killed_zeros c pts)
 
   -- At the parameter a, fixed elements are killed by x - a.
-  killed_fixed : (a : F) (bs cs : List F) → length cs ≡ length bs → All (Fixed (mirror o)) cs → Killed a (map (λ b. (a, b)) bs) cs
+  killed_fixed : (a : F) (bs cs : List F) → length cs ≡ length bs → AllByRecursion (Fixed (mirror o)) cs → Killed a (map (λ b. (a, b)) bs) cs
   killed_fixed a [] [] len h = tt
   killed_fixed a [] (c ∷ cs) len h = absurd (omega arith)
   killed_fixed a (b ∷ bs) [] len h = absurd (omega arith)
@@ -75,7 +75,7 @@ module _ {F : Type 0} {o : Ops F} (l : Laws o) where
       (Vanishing.linear_root l a a c (Basics.mul_comm l a c ∙ ap (λ w. w * a) (sym (ap twist (sym h.0) ∙ l.twist_untwist c))), killed_fixed a bs cs (omega arith) h.1)
 
   -- A killed row of values makes (x - c) × f vanish.
-  killed_nil : (c : F) (f : List F) (pts : List (F × F)) (w : List F) → values o f pts ≡ w → Killed c pts w → All (Nil o (times o (linear o c) f)) pts
+  killed_nil : (c : F) (f : List F) (pts : List (F × F)) (w : List F) → values o f pts ≡ w → Killed c pts w → AllByRecursion (Nil o (times o (linear o c) f)) pts
   killed_nil c f [] w e h = tt
   killed_nil c f (t ∷ pts) [] e h = absurd h
   killed_nil c f (t ∷ pts) (v ∷ w) e h = (
@@ -85,17 +85,17 @@ module _ {F : Type 0} {o : Ops F} (l : Laws o) where
   )
 
   -- The row of values of zero.
-  values_null : (f : List F) (pts : List (F × F)) → All (Zero o) f → All (Zero o) (values o f pts)
+  values_null : (f : List F) (pts : List (F × F)) → AllByRecursion (Zero o) f → AllByRecursion (Zero o) (values o f pts)
   values_null f [] h = tt
   values_null f (t ∷ pts) h = (Interpolants.by_sum l (λ v. v t.0 f t.1 ≡ zero) (Interpolants.eval_null l t.0 f t.1 h), values_null f pts h)
 
   -- Only zero is killed and has the sum zero.
   abbrev Strict : List (F × F) → List F → Type 0
-  Strict pts alpha = (c : F) (w : List F) → length w ≡ length pts → Killed c pts w → comb o alpha w ≡ zero → All (Zero o) w
+  Strict pts alpha = (c : F) (w : List F) → length w ≡ length pts → Killed c pts w → comb o alpha w ≡ zero → AllByRecursion (Zero o) w
 
   -- Dual locators of sharp points are strict.
   strict : (pts : List (F × F)) (alpha : List F) → Sharp o pts → DualLocators o pts alpha → Strict pts alpha
-  strict pts alpha sharp d c w lw killed e = subst (All (Zero o)) g.2 (values_null g.0 pts null)
+  strict pts alpha sharp d c w lw killed e = subst (AllByRecursion (Zero o)) g.2 (values_null g.0 pts null)
     where
       len : length pts ≡ suc (length pts - 1)
       len = omega (arith, Locators.some_place l pts alpha d)
@@ -111,7 +111,7 @@ module _ {F : Type 0} {o : Ops F} (l : Laws o) where
       g : Codeword o pts (length pts - 1) w
       g = Interpolants.shorter l pts w whole.0 (length pts - 1) whole.1 top whole.2
 
-      null : All (Zero o) g.0
+      null : AllByRecursion (Zero o) g.0
       null =
           Multiplication.no_divisors l (linear o c) g.0 (λ z. Basics.one_zero l z.1.0)
           (sharp (times o (linear o c) g.0) (omega (arith, Multiplication.length_times l (neg c) (one ∷ []) g.0, g.1, len)) (killed_nil c g.0 pts w g.2 killed))
@@ -160,7 +160,7 @@ module _ {F : Type 0} {o : Ops F} (l : Laws o) where
           ∙ regroup h.0 (twist (inv h.0)) ∙ ap (λ w. twist (inv h.0) * a * w) (sym (Basics.inv_inv l h.0 h.1))
 
   -- So no two are.
-  dual_apart : (a : F) (blocks : List (Block F)) (alpha : List F) → All (Apart o a) blocks → All (Apart (mirror o) (untwist a)) (dual_blocks o blocks alpha)
+  dual_apart : (a : F) (blocks : List (Block F)) (alpha : List F) → AllByRecursion (Apart o a) blocks → AllByRecursion (Apart (mirror o) (untwist a)) (dual_blocks o blocks alpha)
   dual_apart a [] alpha h = tt
   dual_apart a (block b bs ∷ blocks) alpha h = ((λ c. h.0 (mirror_conjugate a b c)), dual_apart a blocks (drop (length bs) alpha) h.1)
 

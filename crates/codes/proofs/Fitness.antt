@@ -4,7 +4,6 @@ use Rattle.std.proofs.lemmas.List.{length-map}
 use Rattle.std.proofs.lemmas.Bool.{cases_lt}
 use Rattle.std.specs.List.{AllByRecursion}
 use Rattle.std.proofs.lemmas.List.{map-append, length-take, length-drop}
-use Rattle.fields.specs.Lists.{All}
 use Rattle.fields.specs.Meaning.{Meaning, Laws}
 use Rattle.fields.specs.Elements.{Elem, elem, elems, ops}
 use Rattle.fields.proofs.Carrier
@@ -90,7 +89,7 @@ module _ {m : Meaning} (l : Laws m) where
       n (inl (omega arith))
 
   -- Parameters that are apart from a.
-  all_apart : (a : Elem m) (ps : List ℕ) (bs : List (List ℕ)) → ((j : ℕ) → j < length ps → ¬ Conjugate (ops m) a (elem m (get_or ps j 0))) → All (Apart (ops m) a) (grouped m ps bs)
+  all_apart : (a : Elem m) (ps : List ℕ) (bs : List (List ℕ)) → ((j : ℕ) → j < length ps → ¬ Conjugate (ops m) a (elem m (get_or ps j 0))) → AllByRecursion (Apart (ops m) a) (grouped m ps bs)
   all_apart a [] bs h = tt
   all_apart a (p ∷ ps) [] h = tt
   all_apart a (p ∷ ps) (b ∷ bs) h = (h 0 (omega arith), all_apart a ps bs (λ j k. h (suc j) (omega arith)))

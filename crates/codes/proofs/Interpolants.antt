@@ -5,7 +5,7 @@
 --   monomial i     the i-th power of the variable
 use Rattle.std.proofs.Common.{◌≡◌, ℕ, suc, ◌-◌, ◌≤◌, ◌≢◌, List, [], ◌∷◌, ◌++◌, map, length, take, replicate, sym, refl, ap, ◌∙◌, subst, arith, length-append}
 use Rattle.std.proofs.lemmas.List.{length-map, length-replicate}
-use Rattle.fields.specs.Lists.{All}
+use Rattle.std.specs.List.{AllByRecursion}
 use Rattle.fields.specs.Field.{Ops, Laws, Zero, plus, scale}
 use Rattle.fields.specs.Basics
 use Rattle.fields.specs.Basics.{ring}
@@ -52,7 +52,7 @@ module _ {F : Type 0} {o : Ops F} (l : Laws o) where
   at_scale c f t = by_sum (λ v. v t.0 (scale o c f) t.1 ≡ c * v t.0 f t.1) (Evaluation.eval_scaled l t.0 c f t.1)
 
   -- A monic polynomial that vanishes at given points, with one coefficient more than there are points.
-  pub annihilated : (pts : List (F × F)) → (p : List F) × (length p ≡ suc (length pts)) × (coef o p (length pts) ≡ one) × All (Nil o p) pts
+  pub annihilated : (pts : List (F × F)) → (p : List F) × (length p ≡ suc (length pts)) × (coef o p (length pts) ≡ one) × AllByRecursion (Nil o p) pts
   annihilated [] = (one ∷ [], refl, refl, tt)
   annihilated (t ∷ pts) =
       let s = annihilated pts in
@@ -76,7 +76,7 @@ module _ {F : Type 0} {o : Ops F} (l : Laws o) where
       Sharpness.monic_seen l (t ∷ pts) s.0 h (length pts, s.1, s.2) (omega (arith, s.1)) (e, s.3)
 
   -- f with a multiple of p, which vanishes at the points, has the values of f there.
-  unchanged : (f p : List F) (c : F) (pts : List (F × F)) → All (Nil o p) pts → map (seen (plus o f (scale o c p))) pts ≡ map (seen f) pts
+  unchanged : (f p : List F) (c : F) (pts : List (F × F)) → AllByRecursion (Nil o p) pts → map (seen (plus o f (scale o c p))) pts ≡ map (seen f) pts
   unchanged f p c [] h = refl
   unchanged f p c (t ∷ pts) h = cons_path (Evaluation.eval_plus l t.0 f (scale o c p) t.1 ∙ ap (λ w. seen f t + w) (Evaluation.eval_scaled l t.0 c p t.1 ∙ ap (λ w. c * w) h.0 ∙ Basics.mul_zero l c) ∙ Basics.add_zero l _) (unchanged f p c pts h.1)
 
@@ -107,17 +107,17 @@ module _ {F : Type 0} {o : Ops F} (l : Laws o) where
   values_tell pts f g h lf lg e = Sharpness.values_tell l pts f g h lf lg (by_steps (λ v. map (λ t. v t.0 f t.1) pts ≡ map (λ t. v t.0 g t.1) pts) e)
 
   -- The value of a polynomial all of whose coefficients are zero.
-  pub eval_null : (a : F) (f : List F) (b : F) → All (Zero o) f → eval o a f b ≡ zero
+  pub eval_null : (a : F) (f : List F) (b : F) → AllByRecursion (Zero o) f → eval o a f b ≡ zero
   eval_null a [] b h = refl
   eval_null a (c ∷ f) b h = ap (λ w. w * b + eval o a f (step o a b)) h.0 ∙ ap (λ w. zero * b + w) (eval_null a f (step o a b) h.1) ∙ simp (ring, l)
 
   -- Zeros behind the coefficients change no value.
-  eval_padded : (a : F) (f zs : List F) (b : F) → All (Zero o) zs → eval o a (f ++ zs) b ≡ eval o a f b
+  eval_padded : (a : F) (f zs : List F) (b : F) → AllByRecursion (Zero o) zs → eval o a (f ++ zs) b ≡ eval o a f b
   eval_padded a [] zs b h = eval_null a zs b h
   eval_padded a (c ∷ f) zs b h = ap (λ w. c * b + w) (eval_padded a f zs (step o a b) h)
 
   -- A row of zeros is zero.
-  zeros_null : (k : ℕ) → All (Zero o) (replicate k zero)
+  zeros_null : (k : ℕ) → AllByRecursion (Zero o) (replicate k zero)
   zeros_null ℕ.zero = tt
   zeros_null (suc k) = (refl, zeros_null k)
 

@@ -12,7 +12,7 @@
 use Rattle.std.proofs.Common.{◌≡◌, ℕ, suc, ◌+◌ as ◌+ℕ◌, ◌-◌, ◌≤◌, ◌≢◌, List, [], ◌∷◌, ◌++◌, length, replicate, sym, refl, ap, ◌∙◌, append-nil, arith, length-append}
 use Rattle.std.proofs.lemmas.List.{length-map, length-replicate}
 use Rattle.std.proofs.Math.ListN.{get_or-eq_default}
-use Rattle.fields.specs.Lists.{All}
+use Rattle.std.specs.List.{AllByRecursion}
 use Rattle.fields.specs.Field.{Ops, Laws, plus, scale, comb}
 use Rattle.fields.specs.Basics
 use Rattle.fields.specs.Basics.{ring}
@@ -90,7 +90,7 @@ module _ {F : Type 0} {o : Ops F} (l : Laws o) where
       Interpolants.values_tell l pts f g.0 h lf g.1 (sym g.2) m ∙ g.3
 
   -- The sum with a row of values that are all zero.
-  comb_nil : (xs p : List F) (pts : List (F × F)) → All (Nil o p) pts → comb o xs (values o p pts) ≡ zero
+  comb_nil : (xs p : List F) (pts : List (F × F)) → AllByRecursion (Nil o p) pts → comb o xs (values o p pts) ≡ zero
   comb_nil [] p pts h = refl
   comb_nil (x ∷ xs) p [] h = refl
   comb_nil (x ∷ xs) p (t ∷ pts) h =

@@ -2,7 +2,8 @@
 use Rattle.std.specs.Prelude.{◌≡◌, ℕ, List, length}
 use Rattle.std.proofs.Common.{sym, ap, ◌∙◌, arith}
 use Rattle.std.proofs.lemmas.List.{length-map}
-use Rattle.fields.specs.Lists.{All, all_follow, all_map}
+use Rattle.std.specs.List.{AllByRecursion}
+use Rattle.fields.specs.Lists.{all_follow, all_map}
 use Rattle.fields.specs.Field.{plus, scale, comb}
 use Rattle.fields.specs.Field as field
 use Rattle.fields.specs.Meaning.{Meaning, Laws, Code, Fixed, combined}
@@ -14,7 +15,7 @@ use Rattle.fields.specs.Rows
 
 module _ {m : Meaning} (l : Laws m) where
   -- The element of a combination of codes is the combination of their elements.
-  pub combined_elem : (ds bs : List ℕ) → All (Code m) ds → All (Code m) bs → elem m (combined m ds bs) ≡ comb (ops m) (elems m ds) (elems m bs)
+  pub combined_elem : (ds bs : List ℕ) → AllByRecursion (Code m) ds → AllByRecursion (Code m) bs → elem m (combined m ds bs) ≡ comb (ops m) (elems m ds) (elems m bs)
   unfolding ops carried
   combined_elem = Carried.combined_elem l
 
@@ -28,13 +29,13 @@ module _ {m : Meaning} (l : Laws m) where
       let t = Carrier.twists m x.code (sym (ap m.twist (Carrier.counts l x.code h))) in
       (h, Carrier.answers x (Carrier.counts l (m.twist x.code) (l.twist_code x.code h)) (t ∙ ap (ops m).twist (Carrier.elem_code x) ∙ f))
 
-  all_codes : (ds : List ℕ) → All (Fixed m) ds → All (Code m) ds
+  all_codes : (ds : List ℕ) → AllByRecursion (Fixed m) ds → AllByRecursion (Code m) ds
   all_codes = all_follow (Fixed m) (Code m) (λ d f. f.0)
 
   lengths : (x : Elem m) → length (digits_of m x) ≡ length (basis_of m)
   lengths x = length-map (m.digits x.code) (elem m) ∙ l.digits_length x.code (Carrier.is_code l x) ∙ sym l.basis_length ∙ sym (length-map m.basis (elem m))
 
-  fixes : (x : Elem m) → All (field.Fixed (ops m)) (digits_of m x)
+  fixes : (x : Elem m) → AllByRecursion (field.Fixed (ops m)) (digits_of m x)
   fixes x = all_map (Fixed m) (field.Fixed (ops m)) (elem m) fixed_elem (m.digits x.code) (l.digits_fixed x.code (Carrier.is_code l x))
 
   gives : (x : Elem m) → comb (ops m) (digits_of m x) (basis_of m) ≡ x
@@ -43,7 +44,7 @@ module _ {m : Meaning} (l : Laws m) where
       sym (combined_elem (m.digits x.code) m.basis (all_codes _ (l.digits_fixed x.code h)) l.basis_codes)
       ∙ ap (elem m) (l.digits_give x.code h) ∙ Carrier.elem_code x
 
-  only : (x : Elem m) (ds : List (Elem m)) → length ds ≡ length (basis_of m) → All (field.Fixed (ops m)) ds → comb (ops m) ds (basis_of m) ≡ x → ds ≡ digits_of m x
+  only : (x : Elem m) (ds : List (Elem m)) → length ds ≡ length (basis_of m) → AllByRecursion (field.Fixed (ops m)) ds → comb (ops m) ds (basis_of m) ≡ x → ds ≡ digits_of m x
   only x ds n f e =
       let k = all_map (field.Fixed (ops m)) (Fixed m) (λ x. x.code) fixed_code ds f in
       let given = combined_elem (codes ds) m.basis (all_codes (codes ds) k) l.basis_codes ∙ ap (λ w. comb (ops m) w (basis_of m)) (Carrier.elems_codes ds) ∙ e in

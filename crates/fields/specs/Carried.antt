@@ -10,7 +10,7 @@ use mathlib.Core.HLevel.{Σ_prop_path}
 use Rattle.std.proofs.Math.Nat.{ℕ_set}
 use Rattle.std.proofs.Math.Decide.{ℕ_discrete}
 use Rattle.std.proofs.lemmas.Bool.{cond_both, cond-true, ltb-true, lt-ltb, cases_lt}
-use Rattle.fields.specs.Lists.{All}
+use Rattle.std.specs.List.{AllByRecursion}
 use Rattle.fields.specs.Field.{Ops, comb}
 use Rattle.fields.specs.Field as field
 use Rattle.fields.specs.Meaning.{Meaning, Laws, Code, clip, combined}
@@ -173,12 +173,12 @@ module _ {m : Meaning} (l : Laws m) where
       above x n = elim (cases_lt 0 x.code) [ inl h ↦ h | inr h ↦ absurd (n (same_code x (elem m 0) (let z : x.code ≡ 0 = omega arith in z ∙ sym zero_counts))) ]
 
   -- A combination of codes is a code, and its element the combination of their elements.
-  pub combined_code : (ds bs : List ℕ) → All (Code m) ds → All (Code m) bs → Code m (combined m ds bs)
+  pub combined_code : (ds bs : List ℕ) → AllByRecursion (Code m) ds → AllByRecursion (Code m) bs → Code m (combined m ds bs)
   combined_code [] bs p q = zero_code
   combined_code (d ∷ ds) [] p q = zero_code
   combined_code (d ∷ ds) (b ∷ bs) p q = l.sum_code _ _ (l.product_code d b p.0 q.0) (combined_code ds bs p.1 q.1)
 
-  pub combined_elem : (ds bs : List ℕ) → All (Code m) ds → All (Code m) bs → elem m (combined m ds bs) ≡ comb (carried m) (elems m ds) (elems m bs)
+  pub combined_elem : (ds bs : List ℕ) → AllByRecursion (Code m) ds → AllByRecursion (Code m) bs → elem m (combined m ds bs) ≡ comb (carried m) (elems m ds) (elems m bs)
   combined_elem [] bs p q = zero_is m
   combined_elem (d ∷ ds) [] p q = zero_is m
   combined_elem (d ∷ ds) (b ∷ bs) p q =

@@ -11,7 +11,8 @@ use Rattle.std.proofs.lemmas.Bool.{eq-eqb, cond-true}
 use Rattle.std.proofs.Math.Bool.{◌||◌}
 use Rattle.std.specs.Cmp.Lexicographic.{pointwise}
 use Rattle.std.specs.List.{list_any, list_all as every}
-use Rattle.fields.specs.Lists.{All, all_follow}
+use Rattle.std.specs.List.{AllByRecursion}
+use Rattle.fields.specs.Lists.{all_follow}
 use Rattle.fields.specs.Meaning.{Meaning, Code, Fixed, combined}
 use Rattle.fields.specs.Range.{both, both_left, both_right, below, at}
 
@@ -40,7 +41,7 @@ abbrev pub rows : ℕ → List ℕ → (List ℕ → Bool) → Bool
 rows ℕ.zero from f = f []
 rows (suc n) from f = every (λ c. rows n from (λ ds. f (c ∷ ds))) from
 
-at_rows : (n : ℕ) (from : List ℕ) (f : List ℕ → Bool) → T (rows n from f) → (ds : List ℕ) → length ds ≡ n → All (λ d. T (member d from)) ds → T (f ds)
+at_rows : (n : ℕ) (from : List ℕ) (f : List ℕ → Bool) → T (rows n from f) → (ds : List ℕ) → length ds ≡ n → AllByRecursion (λ d. T (member d from)) ds → T (f ds)
 at_rows ℕ.zero from f t [] e h = t
 at_rows ℕ.zero from f t (d ∷ ds) e h = absurd (omega arith)
 at_rows (suc n) from f t [] e h = absurd (omega arith)
@@ -48,9 +49,9 @@ at_rows (suc n) from f t (d ∷ ds) e h =
     at_rows n from (λ rest. f (d ∷ rest)) (at_member (λ c. rows n from (λ rest. f (c ∷ rest))) from t d h.0) ds (omega arith) h.1
 
 pub record DigitLaws (m : Meaning) : Type 0 where
-  pub digits_fixed : (a : ℕ) → Code m a → All (Fixed m) (m.digits a)
+  pub digits_fixed : (a : ℕ) → Code m a → AllByRecursion (Fixed m) (m.digits a)
   pub digits_give : (a : ℕ) → Code m a → combined m (m.digits a) m.basis ≡ a
-  pub digits_only : (a : ℕ) (ds : List ℕ) → Code m a → length ds ≡ m.width → All (Fixed m) ds → combined m ds m.basis ≡ a → ds ≡ m.digits a
+  pub digits_only : (a : ℕ) (ds : List ℕ) → Code m a → length ds ≡ m.width → AllByRecursion (Fixed m) ds → combined m ds m.basis ≡ a → ds ≡ m.digits a
 
 module _ (m : Meaning) (fixed : List ℕ) where
   -- The numbers of the list are fixed codes,
@@ -70,7 +71,7 @@ module _ (m : Meaning) (fixed : List ℕ) where
   rows_return = rows m.width fixed (λ ds. same ds (m.digits (combined m ds m.basis)))
 
   module _ (t1 : T are_fixed) (t2 : T all_fixed) (t3 : T digits_combine) (t4 : T rows_return) where
-    fixes : (ds : List ℕ) → T (every (λ d. member d fixed) ds) → All (Fixed m) ds
+    fixes : (ds : List ℕ) → T (every (λ d. member d fixed) ds) → AllByRecursion (Fixed m) ds
     fixes [] t = tt
     fixes (d ∷ ds) t =
         let k = at_member (λ d. both (nat_lt d m.size) (m.twist d == d)) fixed t1 d (both_left (member d fixed) (every (λ d. member d fixed) ds) t) in (

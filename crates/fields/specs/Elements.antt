@@ -8,7 +8,7 @@
 --   DigitsLinear o ..   digits are fixed, combine the basis to their element, and keep sums and products with fixed elements
 use Rattle.std.specs.Prelude.{◌≡◌, ℕ, Bool, true, false, cond, List, map, length, nat_lt, refl}
 use Rattle.std.proofs.Common.{ap}
-use Rattle.fields.specs.Lists.{All}
+use Rattle.std.specs.List.{AllByRecursion}
 use Rattle.fields.specs.Field.{Ops, Fixed, plus, scale, comb}
 use Rattle.fields.specs.Meaning.{Meaning}
 
@@ -69,8 +69,8 @@ module _ (m : Meaning) where
 -- Rows of fixed elements, as many as the basis has, stand for elements and keep their sums and their products with fixed ones.
 pub record DigitsLinear {F : Type 0} (o : Ops F) (basis : List F) (digits : F → List F) : Type 0 where
   pub digits_length : (x : F) → length (digits x) ≡ length basis
-  pub digits_fixed : (x : F) → All (Fixed o) (digits x)
+  pub digits_fixed : (x : F) → AllByRecursion (Fixed o) (digits x)
   pub digits_give : (x : F) → comb o (digits x) basis ≡ x
-  pub digits_only : (x : F) (ds : List F) → length ds ≡ length basis → All (Fixed o) ds → comb o ds basis ≡ x → ds ≡ digits x
+  pub digits_only : (x : F) (ds : List F) → length ds ≡ length basis → AllByRecursion (Fixed o) ds → comb o ds basis ≡ x → ds ≡ digits x
   pub digits_add : (x y : F) → digits (o.add x y) ≡ plus o (digits x) (digits y)
   pub digits_mul : (c x : F) → Fixed o c → digits (o.mul c x) ≡ scale o c (digits x)

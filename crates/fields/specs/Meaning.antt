@@ -10,7 +10,7 @@
 --   digit_row m a   the m digits of a, and zeros after them: eight numbers
 --   Laws m          what a kind has to keep
 use Rattle.std.specs.Prelude.{◌≡◌, ℕ, ◌-◌, ◌<◌, ◌≤◌, cond, List, [], ◌∷◌, ◌++◌, length, replicate, Some, None, Option, nat_lt, slice_index}
-use Rattle.fields.specs.Lists.{All}
+use Rattle.std.specs.List.{AllByRecursion}
 
 pub record Meaning : Type 0 where
   pub number : ℕ
@@ -85,8 +85,8 @@ pub record Laws (m : Meaning) : Type 0 where
   pub untwist_twist : (a : ℕ) → Code m a → m.untwist (m.twist a) ≡ a
   -- digits: fixed, they combine the basis to their element, and no others do
   pub basis_length : length m.basis ≡ m.width
-  pub basis_codes : All (Code m) m.basis
+  pub basis_codes : AllByRecursion (Code m) m.basis
   pub digits_length : (a : ℕ) → Code m a → length (m.digits a) ≡ m.width
-  pub digits_fixed : (a : ℕ) → Code m a → All (Fixed m) (m.digits a)
+  pub digits_fixed : (a : ℕ) → Code m a → AllByRecursion (Fixed m) (m.digits a)
   pub digits_give : (a : ℕ) → Code m a → combined m (m.digits a) m.basis ≡ a
-  pub digits_only : (a : ℕ) (ds : List ℕ) → Code m a → length ds ≡ m.width → All (Fixed m) ds → combined m ds m.basis ≡ a → ds ≡ m.digits a
+  pub digits_only : (a : ℕ) (ds : List ℕ) → Code m a → length ds ≡ m.width → AllByRecursion (Fixed m) ds → combined m ds m.basis ≡ a → ds ≡ m.digits a

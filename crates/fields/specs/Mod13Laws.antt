@@ -1,7 +1,7 @@
 -- The laws of the integers modulo 13, each by a test over all codes.
 use Rattle.std.specs.Prelude.{◌≡◌, ℕ, ◌^◌, ◌<◌, List, [], ◌∷◌, length, ◌==◌, nat_eq, refl}
 use Rattle.std.proofs.Common.{sym, ap, ◌∙◌, mod-lt, arith, eqb→eq, lit<, lit≤}
-use Rattle.fields.specs.Lists.{All}
+use Rattle.std.specs.List.{AllByRecursion}
 use Rattle.fields.specs.Meaning.{Laws, Fixed, combined}
 use Rattle.fields.specs.Shipped.{mod13}
 use Rattle.fields.specs.Range.{at, at2, at3, unless0, from0}
@@ -16,7 +16,7 @@ P = mod13.product
 digit_alone : (d : ℕ) → d < 13 → combined mod13 (d ∷ []) (1 ∷ []) ≡ d
 digit_alone d h = eqb→eq _ _ (at (λ d. nat_eq (combined mod13 (d ∷ []) (1 ∷ [])) d) 13 tt d h)
 
-only : (a : ℕ) (ds : List ℕ) → length ds ≡ 1 → All (Fixed mod13) ds → combined mod13 ds (1 ∷ []) ≡ a → ds ≡ a ∷ []
+only : (a : ℕ) (ds : List ℕ) → length ds ≡ 1 → AllByRecursion (Fixed mod13) ds → combined mod13 ds (1 ∷ []) ≡ a → ds ≡ a ∷ []
 only a [] n f e = absurd (omega arith)
 only a (d ∷ []) n f e = ap (λ x. x ∷ []) (sym (digit_alone d f.0.0) ∙ e)
 only a (d ∷ c ∷ ds) n f e = absurd (omega arith)

@@ -4,7 +4,7 @@ use Rattle.std.specs.Prelude.{◌≡◌, ℕ, zero, suc, ◌+◌, ◌-◌, ◌*�
 use Rattle.std.proofs.Math.Path.{refl, sym, ap}
 use Rattle.std.proofs.Common.{ap₂, ◌∙◌, subst, inl, inr, mul-zero, mul-suc, mul_comm, add_comm, arith, lit<, lit≤}
 use Rattle.std.proofs.lemmas.Bool.{cases_lt}
-use Rattle.fields.specs.Lists.{All}
+use Rattle.std.specs.List.{AllByRecursion}
 use Rattle.fields.specs.Meaning.{Meaning, Laws, Fixed, combined}
 use Rattle.fields.specs.Residues.{Modulus, degree, sum, product, power, residues}
 use Rattle.fields.specs.Elements.{Elem, elem}
@@ -81,7 +81,7 @@ module _ (q : Modulus) (r : Ring q (size q)) where
           size q ≤ 256 → number < 256 → 1 ≤ length basis → length basis ≤ 8
           → ((a b : ℕ) → a < size q → b < size q → power q t (sum q a b) ≡ sum q (power q t a) (power q t b))
           → ((a : ℕ) → a < size q → power q (t * u) a ≡ a)
-          → All (λ b. b < size q) basis → ((a : ℕ) → length (digits a) ≡ length basis) → DigitLaws kind → Laws kind
+          → AllByRecursion (λ b. b < size q) basis → ((a : ℕ) → length (digits a) ≡ length basis) → DigitLaws kind → Laws kind
       residue_laws small byte low high additive whole codes lengths d = record {
         number_byte = byte;
         size_low = r.one_code;
@@ -125,7 +125,7 @@ module _ (q : Modulus) (r : Ring q (size q)) where
     plain_digits : DigitLaws plain
     plain_digits = record { digits_fixed = λ a h. ((h, power_once a h), tt); digits_give = one_digit; digits_only = only }
       where
-        only : (a : ℕ) (ds : List ℕ) → a < size q → length ds ≡ 1 → All (Fixed plain) ds → combined plain ds (1 ∷ []) ≡ a → ds ≡ a ∷ []
+        only : (a : ℕ) (ds : List ℕ) → a < size q → length ds ≡ 1 → AllByRecursion (Fixed plain) ds → combined plain ds (1 ∷ []) ≡ a → ds ≡ a ∷ []
         only a [] h n f e = absurd (omega arith)
         only a (d ∷ []) h n f e = ap (λ x. x ∷ []) (sym (one_digit d f.0.0) ∙ e)
         only a (d ∷ c ∷ ds) h n f e = absurd (omega arith)

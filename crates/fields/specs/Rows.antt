@@ -1,7 +1,8 @@
 -- Sums, scalings and combinations of rows of elements.
 use Rattle.std.specs.Prelude.{◌≡◌, suc, max, List, [], ◌∷◌, map, length}
 use Rattle.std.proofs.Common.{sym, ◌∙◌, ap, arith}
-use Rattle.fields.specs.Lists.{All, all_map}
+use Rattle.std.specs.List.{AllByRecursion}
+use Rattle.fields.specs.Lists.{all_map}
 use Rattle.fields.specs.Field.{Ops, Laws, Fixed, plus, comb}
 use Rattle.fields.specs.Basics
 use Rattle.fields.specs.Basics.{ring}
@@ -28,10 +29,10 @@ module _ {F : Type 0} {o : Ops F} (l : Laws o) where
   comb_scale d (c ∷ cs) (e ∷ es) = ap (λ w. d * c * e + w) (comb_scale d cs es) ∙ simp (ring, l)
 
   -- Sums of rows of fixed elements, and their products with a fixed element, are rows of fixed elements.
-  pub fixed_plus : (cs ds : List F) → All (Fixed o) cs → All (Fixed o) ds → All (Fixed o) (plus o cs ds)
+  pub fixed_plus : (cs ds : List F) → AllByRecursion (Fixed o) cs → AllByRecursion (Fixed o) ds → AllByRecursion (Fixed o) (plus o cs ds)
   fixed_plus [] ds h k = k
   fixed_plus (c ∷ cs) [] h k = h
   fixed_plus (c ∷ cs) (d ∷ ds) h k = (Basics.fixed_add l c d h.0 k.0, fixed_plus cs ds h.1 k.1)
 
-  pub fixed_scaled : (d : F) (cs : List F) → Fixed o d → All (Fixed o) cs → All (Fixed o) (map (o.mul d) cs)
+  pub fixed_scaled : (d : F) (cs : List F) → Fixed o d → AllByRecursion (Fixed o) cs → AllByRecursion (Fixed o) (map (o.mul d) cs)
   fixed_scaled d cs p h = all_map (Fixed o) (Fixed o) (o.mul d) (λ c q. Basics.fixed_mul l d c p q) cs h

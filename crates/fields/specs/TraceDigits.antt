@@ -10,7 +10,8 @@ use Rattle.std.proofs.Common.{sym, ap₂, ◌∙◌, subst, pow-suc, mul_comm}
 use Rattle.std.proofs.Math.Path.{ap}
 use Rattle.std.proofs.Math.Nat.{pow-zero}
 use Rattle.std.proofs.lemmas.List.{length-map}
-use Rattle.fields.specs.Lists.{All, all_follow, all_map}
+use Rattle.std.specs.List.{AllByRecursion}
+use Rattle.fields.specs.Lists.{all_follow, all_map}
 use Rattle.fields.specs.Field.{comb}
 use Rattle.fields.specs.Meaning.{Meaning, Laws, Code, combination}
 use Rattle.fields.specs.Residues.{Modulus, sum, product, power, trace, traces, residues}
@@ -99,20 +100,20 @@ module _ (q : Modulus) (r : Ring q (size q)) (order : Ordered q r) (small : size
   product_trace k c a hc ha = trace_elem k (product q c a) (r.product_code c a hc ha) ∙ ap (tr (carried m) τ k) (Carried.product_elem l c a hc ha)
 
   -- Two ways to take a list of codes to what stands for it are equal where they are at each code.
-  each : {A B : Type 0} (h : A → B) (f : ℕ → A) (g : Elem m → B) → ((a : ℕ) → a < size q → h (f a) ≡ g (elem m a)) → (ns : List ℕ) → All (Code m) ns → map h (map f ns) ≡ map g (elems m ns)
+  each : {A B : Type 0} (h : A → B) (f : ℕ → A) (g : Elem m → B) → ((a : ℕ) → a < size q → h (f a) ≡ g (elem m a)) → (ns : List ℕ) → AllByRecursion (Code m) ns → map h (map f ns) ≡ map g (elems m ns)
   each h f g e [] p = refl
   each h f g e (n ∷ ns) p = ap₂ (λ x xs. x ∷ xs) (e n p.0) (each h f g e ns p.1)
 
   -- The t-th powers of codes are codes,
-  raised_codes : (ns : List ℕ) → All (Code m) ns → All (Code m) (map (power q t) ns)
+  raised_codes : (ns : List ℕ) → AllByRecursion (Code m) ns → AllByRecursion (Code m) (map (power q t) ns)
   raised_codes = all_map (Code m) (Code m) (power q t) raised
 
   -- and their elements are the images.
-  raised_elems : (ns : List ℕ) → All (Code m) ns → elems m (map (power q t) ns) ≡ map τ (elems m ns)
+  raised_elems : (ns : List ℕ) → AllByRecursion (Code m) ns → elems m (map (power q t) ns) ≡ map τ (elems m ns)
   raised_elems = each (elem m) (power q t) τ (λ a h. sym (τ_elem a h))
 
   -- Codes are those of their elements.
-  codes_elems : (ns : List ℕ) → All (Code m) ns → codes (elems m ns) ≡ ns
+  codes_elems : (ns : List ℕ) → AllByRecursion (Code m) ns → codes (elems m ns) ≡ ns
   codes_elems [] p = refl
   codes_elems (n ∷ ns) p = ap₂ (λ x xs. x ∷ xs) (sym (Carried.code_elem m n (Carried.counts l n p.0))) (codes_elems ns p.1)
 
@@ -128,10 +129,10 @@ module _ (q : Modulus) (r : Ring q (size q)) (order : Ordered q r) (small : size
   Kept d = (d < size q) × (power q t d ≡ d)
 
   -- Kept codes are codes.
-  kept_codes : (ds : List ℕ) → All Kept ds → All (Code m) ds
+  kept_codes : (ds : List ℕ) → AllByRecursion Kept ds → AllByRecursion (Code m) ds
   kept_codes = all_follow Kept (Code m) (λ d g. g.0)
 
-  module _ (cs bs : List ℕ) (cs-codes : All (Code m) cs) (bs-codes : All (Code m) bs) where
+  module _ (cs bs : List ℕ) (cs-codes : AllByRecursion (Code m) cs) (bs-codes : AllByRecursion (Code m) bs) where
     -- The first table, told in elements: the unit rows.
     table_elems :
         (k : ℕ) → trace_table q t k cs bs ≡ identity 0 1 k
@@ -144,7 +145,7 @@ module _ (q : Modulus) (r : Ring q (size q)) (order : Ordered q r) (small : size
         row c hc = each (elem m) (λ b. trace q t k (product q c b)) (λ y. tr (carried m) τ k ((carried m).mul (elem m c) y)) (λ b hb. product_trace k c b hc hb) bs bs-codes
 
     -- Combinations that are 0, told in elements.
-    kills : (k : ℕ) (ds : List ℕ) → All (Code m) ds → combinations q t bs k ds ≡ replicate k 0 → Kills (carried m) τ (elems m bs) k (elems m ds)
+    kills : (k : ℕ) (ds : List ℕ) → AllByRecursion (Code m) ds → combinations q t bs k ds ≡ replicate k 0 → Kills (carried m) τ (elems m bs) k (elems m ds)
     kills zero ds p e = tt
     kills (suc k) ds p e =
         let now : combination (sum q) (product q) ds bs ≡ 0 = cc in
@@ -160,8 +161,8 @@ module _ (q : Modulus) (r : Ring q (size q)) (order : Ordered q r) (small : size
       traces_are a = ap (λ n. map (λ c. trace q t n (product q c a)) cs) many
 
       -- which are kept codes,
-      traces_kept : (a : ℕ) → a < size q → All Kept (traces q t cs a)
-      traces_kept a h = subst (All Kept) (sym (traces_are a)) (all_map (Code m) Kept (λ c. trace q t (suc k) (product q c a)) kept cs cs-codes)
+      traces_kept : (a : ℕ) → a < size q → AllByRecursion Kept (traces q t cs a)
+      traces_kept a h = subst (AllByRecursion Kept) (sym (traces_are a)) (all_map (Code m) Kept (λ c. trace q t (suc k) (product q c a)) kept cs cs-codes)
         where
           kept : (c : ℕ) → c < size q → Kept (trace q t (suc k) (product q c a))
           kept c hc = let p = r.product_code c a hc h in (trace_code q (size q) r t (suc k) (product q c a) p, trace_kept (suc k) whole (product q c a) p)
@@ -185,7 +186,7 @@ module _ (q : Modulus) (r : Ring q (size q)) (order : Ordered q r) (small : size
           ∙ Traces.trs_give (Carried.carried_laws l) τ adds muls k (elem m a) (elems m cs) (elems m bs) one killed)
 
       -- and no other kept codes do.
-      only : (a : ℕ) (ds : List ℕ) → a < size q → length ds ≡ length bs → All Kept ds → combination (sum q) (product q) ds bs ≡ a → ds ≡ traces q t cs a
+      only : (a : ℕ) (ds : List ℕ) → a < size q → length ds ≡ length bs → AllByRecursion Kept ds → combination (sum q) (product q) ds bs ≡ a → ds ≡ traces q t cs a
       only a ds h n f e =
           let p = kept_codes ds f in
           let given : comb (carried m) (elems m ds) (elems m bs) ≡ elem m a = sym (Carried.combined_elem l ds bs p bs-codes) ∙ ap (elem m) e in

@@ -8,7 +8,7 @@
 --   Kills o τ bs k cs    cs, its image under τ and so on, k rows, combine bs to zero
 use Rattle.std.specs.Prelude.{◌≡◌, ℕ, suc, List, [], ◌∷◌, map, length, replicate, refl}
 use Rattle.std.proofs.Common.{sym, ◌∙◌, ap, ap₂, arith}
-use Rattle.fields.specs.Lists.{All}
+use Rattle.std.specs.List.{AllByRecursion}
 use Rattle.fields.specs.Field.{Ops, Laws, comb}
 use Rattle.fields.specs.Basics
 use Rattle.fields.specs.Basics.{ring}
@@ -99,7 +99,7 @@ module _ {F : Type 0} {o : Ops F} (l : Laws o) (τ : F → F) (adds : (x y : F) 
   tr_left k x e = Basics.add_cancel l x (τ (tr o τ k x)) (tr o τ k x) (ap (λ w. x + w) (tr_image k x) ∙ Basics.add_comm l x (tr o τ k (τ x)) ∙ tr_moves k x ∙ ap (λ w. tr o τ k x + w) e ∙ Basics.add_comm l (tr o τ k x) x)
 
   -- The trace of c times a combination combines the traces of c times each b.
-  tr_comb : (k : ℕ) (c : F) (ds bs : List F) → All (Left τ) ds → tr o τ k (c * comb o ds bs) ≡ comb o ds (map (λ b. tr o τ k (c * b)) bs)
+  tr_comb : (k : ℕ) (c : F) (ds bs : List F) → AllByRecursion (Left τ) ds → tr o τ k (c * comb o ds bs) ≡ comb o ds (map (λ b. tr o τ k (c * b)) bs)
   tr_comb k c [] bs h = ap (tr o τ k) (Basics.mul_zero l c) ∙ tr_zero k
   tr_comb k c (d ∷ ds) [] h = ap (tr o τ k) (Basics.mul_zero l c) ∙ tr_zero k
   tr_comb k c (d ∷ ds) (b ∷ bs) h =
@@ -109,14 +109,14 @@ module _ {F : Type 0} {o : Ops F} (l : Laws o) (τ : F → F) (adds : (x y : F) 
       apart = simp (ring, l)
 
   -- For each c of a list, the same.
-  trs_comb : (k : ℕ) (cs ds bs : List F) → All (Left τ) ds → map (λ c. tr o τ k (c * comb o ds bs)) cs ≡ map (comb o ds) (map (λ c. map (λ b. tr o τ k (c * b)) bs) cs)
+  trs_comb : (k : ℕ) (cs ds bs : List F) → AllByRecursion (Left τ) ds → map (λ c. tr o τ k (c * comb o ds bs)) cs ≡ map (comb o ds) (map (λ c. map (λ b. tr o τ k (c * b)) bs) cs)
   trs_comb k [] ds bs h = refl
   trs_comb k (c ∷ cs) ds bs h = ap₂ (λ x xs. x ∷ xs) (tr_comb k c ds bs h) (trs_comb k cs ds bs h)
 
   -- Digits are the only ones: where the traces of c b, row by row, are the unit rows, those of c times a combination of bs are
   -- the elements that it was combined with.
   pub trs_only :
-      (k n : ℕ) (cs bs ds : List F) → map (λ c. map (λ b. tr o τ k (c * b)) bs) cs ≡ identity zero one n → length ds ≡ n → All (Left τ) ds
+      (k n : ℕ) (cs bs ds : List F) → map (λ c. map (λ b. tr o τ k (c * b)) bs) cs ≡ identity zero one n → length ds ≡ n → AllByRecursion (Left τ) ds
       → map (λ c. tr o τ k (c * comb o ds bs)) cs ≡ ds
   trs_only k n cs bs ds e m h = trs_comb k cs ds bs h ∙ ap (map (comb o ds)) e ∙ comb_units l ds n m
 

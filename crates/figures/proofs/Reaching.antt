@@ -2,7 +2,7 @@
 --
 --   full_only o e      the parts of a block whose difference e is full part
 use Rattle.std.proofs.Common.{◌≡◌, ℕ, suc, ◌+◌, ◌*◌, ◌≤◌, ◌≢◌, List, [], ◌∷◌, map, length, sym, refl, ap, ◌∙◌, subst, ap₂, arith}
-use Rattle.fields.specs.Lists.{All}
+use Rattle.std.specs.List.{AllByRecursion}
 use Rattle.fields.specs.Field.{Ops, Laws, Zero, plus}
 use Rattle.fields.specs.Meaning.{Meaning}
 use Rattle.fields.specs.Elements.{Elem, ops}
@@ -29,20 +29,20 @@ module _ {F : Type 0} {o : Ops F} (l : Laws o) where
   independent_one x n = Spans.ind_more l x [] (Spans.ind_nil l) (λ s. n (spanned_by_none x s))
 
   -- Zeros are spanned by no elements.
-  zeros_spanned : (xs : List F) → All (Zero o) xs → All (Spanned o []) xs
+  zeros_spanned : (xs : List F) → AllByRecursion (Zero o) xs → AllByRecursion (Spanned o []) xs
   zeros_spanned [] h = tt
   zeros_spanned (x ∷ xs) h = (([], refl, tt, h.0), zeros_spanned xs h.1)
 
   -- Zeros have the rank 0.
-  pub rank_none : (xs : List F) → All (Zero o) xs → IsRank o xs 0
+  pub rank_none : (xs : List F) → AllByRecursion (Zero o) xs → IsRank o xs 0
   rank_none xs h = Spans.rank_by l xs [] (Spans.ind_nil l) (zeros_spanned xs h) tt
 
   -- An element other than zero and its fixed multiples have the rank 1.
-  pub rank_one : (x : F) (xs : List F) → x ≢ o.zero → All (Spanned o (x ∷ [])) xs → IsRank o (x ∷ xs) 1
+  pub rank_one : (x : F) (xs : List F) → x ≢ o.zero → AllByRecursion (Spanned o (x ∷ [])) xs → IsRank o (x ∷ xs) 1
   rank_one x xs n h = Spans.rank_by l (x ∷ xs) (x ∷ []) (independent_one x n) (Spans.spanned_first l x [], h) (Spans.spanned_first l x xs, tt)
 
   -- A word of zeros has no weight.
-  pub weighs_none : (word : List (List F)) → All (All (Zero o)) word → Weighs o word 0
+  pub weighs_none : (word : List (List F)) → AllByRecursion (AllByRecursion (Zero o)) word → Weighs o word 0
   weighs_none [] h = refl
   weighs_none (xs ∷ word) h = (0, rank_none xs h.0, 0, weighs_none word h.1, refl)
 
@@ -65,7 +65,7 @@ module _ {F : Type 0} {o : Ops F} (l : Laws o) where
   mix_none (suc n) = ap (λ f. o.zero ∷ f) (mix_none n)
 
   -- They are spanned by no elements.
-  zeros_from_none : (n : ℕ) → All (Spanned o []) (zeros o n)
+  zeros_from_none : (n : ℕ) → AllByRecursion (Spanned o []) (zeros o n)
   zeros_from_none ℕ.zero = tt
   zeros_from_none (suc n) = (([], refl, tt, refl), zeros_from_none n)
 

@@ -9,7 +9,7 @@
 --   wrong_at k marks x y   for the message x y at least k symbols without mark of the difference are not zero
 --   far k marks            so it is for each message, by test
 use Rattle.std.proofs.Common.{◌≡◌, ℕ, ◌+◌, ◌*◌, ◌<◌, ◌≤◌, Bool, true, false, cond, T, eqb, leb, List, [], ◌∷◌, map, length, sym, ap, ◌∙◌, subst, subst₂, arith, leb→le}
-use Rattle.fields.specs.Lists.{All}
+use Rattle.std.specs.List.{AllByRecursion}
 use Rattle.fields.specs.Field.{Ops, Laws, plus}
 use Rattle.fields.specs.Elements.{Elem, element, elem, elems, ops}
 use Rattle.fields.specs.Shipped.{mod13}
@@ -51,7 +51,7 @@ abbrev pub far : ℕ → List Bool → Bool
 far k marks = below2 (λ a b. wrong_at k marks (elem mod13 a) (elem mod13 b)) 13
 
 -- In a block of one symbol without hints row and column part are zero.
-full_alone : {F : Type 0} {o : Ops F} (l : Laws o) (d : F) (full row column : List F) → length full ≡ 1 → length row ≡ 1 → All (Spanned o []) row → column ≡ o.zero ∷ []
+full_alone : {F : Type 0} {o : Ops F} (l : Laws o) (d : F) (full row column : List F) → length full ≡ 1 → length row ≡ 1 → AllByRecursion (Spanned o []) row → column ≡ o.zero ∷ []
     → d ∷ [] ≡ plus o full (plus o row column) → full ≡ d ∷ []
 full_alone l d [] row column n k h z e = absurd (omega arith)
 full_alone l d (f ∷ g ∷ fs) row column n k h z e = absurd (omega arith)

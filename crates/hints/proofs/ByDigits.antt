@@ -1,7 +1,7 @@
 -- An element is reduced by elements whose digits are in reduced form: each is taken off times the digit at its pivot.
 use Rattle.std.proofs.Common.{◌≡◌, ℕ, Bool, List, [], ◌∷◌, map, length, sym, refl, ap, ◌∙◌, subst, arith}
 use Rattle.std.proofs.lemmas.List.{length-map}
-use Rattle.fields.specs.Lists.{All}
+use Rattle.std.specs.List.{AllByRecursion}
 use Rattle.fields.specs.Field.{Ops, Laws, Fixed, plus, scale, comb}
 use Rattle.fields.specs.Basics
 use Rattle.fields.specs.Basics.{ring}
@@ -30,7 +30,7 @@ module _ {F : Type 0} {o : Ops F} (l : Laws o) (n : ℕ) (digits : F → List F)
   picked x = Mixing.length_pick marks (digits x) ((d.fixed x).0 ∙ sym formed.size) ∙ formed.full ∙ length-map us digits
 
   -- The digits are fixed.
-  fixed_picked : (x : F) → All (Fixed o) (pick marks (digits x))
+  fixed_picked : (x : F) → AllByRecursion (Fixed o) (pick marks (digits x))
   fixed_picked x = Spans.all_pick l (Fixed o) marks (digits x) (d.fixed x).1
 
   -- It keeps sums.
@@ -45,7 +45,7 @@ module _ {F : Type 0} {o : Ops F} (l : Laws o) (n : ℕ) (digits : F → List F)
       ap (λ w. comb o (pick marks w) us) (d.mul c x p) ∙ ap (λ w. comb o w us) (Mixing.pick_map (o.mul c) marks (digits x)) ∙ Rows.comb_scale l c (pick marks (digits x)) us
 
   -- What the elements span is taken off whole.
-  off_all : (cs : List F) → length cs ≡ length us → All (Fixed o) cs → off (comb o cs us) ≡ comb o cs us
+  off_all : (cs : List F) → length cs ≡ length us → AllByRecursion (Fixed o) cs → off (comb o cs us) ≡ comb o cs us
   off_all cs e k =
       ap (λ w. comb o (pick marks w) us) (Ranking.digits_comb l n digits d cs us e k ∙ ap (λ i. mix o i (map digits us) cs) (sym formed.size))
       ∙ ap (λ w. comb o w us) (Mixing.pick_mix l 0 marks (map digits us) cs formed.pivots (e ∙ sym (length-map us digits)) (omega (arith, formed.full, length-map us digits)))

@@ -1,7 +1,7 @@
 -- What is left of a difference when column hints are cleared away by their pivots, and what a splitting says of it.
 use Rattle.std.proofs.Common.{◌≡◌, ℕ, suc, max, Bool, List, [], ◌∷◌, map, length, sym, refl, ap, ◌∙◌, subst, arith}
 use Rattle.std.proofs.lemmas.List.{length-map}
-use Rattle.fields.specs.Lists.{All}
+use Rattle.std.specs.List.{AllByRecursion}
 use Rattle.fields.specs.Field.{Ops, Laws, Zero, Fixed, plus}
 use Rattle.fields.specs.Basics
 use Rattle.fields.specs.Basics.{ring}
@@ -66,31 +66,31 @@ module _ {F : Type 0} {o : Ops F} (l : Laws o) where
       one_less y = simp (ring, l)
 
   -- Opposites of what is spanned.
-  all_neg : (es us : List F) → All (Spanned o es) us → All (Spanned o es) (map neg us)
+  all_neg : (es us : List F) → AllByRecursion (Spanned o es) us → AllByRecursion (Spanned o es) (map neg us)
   all_neg es [] h = tt
   all_neg es (u ∷ us) h = (spanned_neg es u h.0, all_neg es us h.1)
 
   -- Sums of what is spanned.
-  all_sum : (es us vs : List F) → All (Spanned o es) us → All (Spanned o es) vs → All (Spanned o es) (plus o us vs)
+  all_sum : (es us vs : List F) → AllByRecursion (Spanned o es) us → AllByRecursion (Spanned o es) vs → AllByRecursion (Spanned o es) (plus o us vs)
   all_sum es [] vs h k = k
   all_sum es (u ∷ us) [] h k = h
   all_sum es (u ∷ us) (v ∷ vs) h k = (Spans.spanned_add l es u v h.0 k.0, all_sum es us vs h.1 k.1)
 
   -- Sums of fixed rows times what is spanned.
-  all_mix : (n : ℕ) (hs : List (List F)) (es ps : List F) → All (All (Fixed o)) hs → All (Spanned o es) ps → All (Spanned o es) (mix o n hs ps)
+  all_mix : (n : ℕ) (hs : List (List F)) (es ps : List F) → AllByRecursion (AllByRecursion (Fixed o)) hs → AllByRecursion (Spanned o es) ps → AllByRecursion (Spanned o es) (mix o n hs ps)
   all_mix ℕ.zero hs es ps k h = tt
   all_mix (suc n) hs es ps k h = (Spans.spanned_comb l es (heads o hs) ps (Mixing.fixed_heads l hs k) h, all_mix n (tails o hs) es ps (Mixing.fixed_tails l hs k) h)
 
   -- What is spanned stays so when it is cleared by fixed rows.
-  clear_spanned : (marks : List Bool) (hs : List (List F)) (es v : List F) → All (All (Fixed o)) hs → All (Spanned o es) v → All (Spanned o es) (clear o marks hs v)
+  clear_spanned : (marks : List Bool) (hs : List (List F)) (es v : List F) → AllByRecursion (AllByRecursion (Fixed o)) hs → AllByRecursion (Spanned o es) v → AllByRecursion (Spanned o es) (clear o marks hs v)
   clear_spanned marks hs es v k h =
       all_sum es v (map neg (mix o (length v) hs (pick marks v))) h
       (all_neg es (mix o (length v) hs (pick marks v)) (all_mix (length v) hs es (pick marks v) k (Spans.all_pick l (Spanned o es) marks v h)))
 
   -- A sum of the rows is cleared away.
   clear_mix : (marks : List Bool) (hs : List (List F)) (xs : List F) → Pivots o 0 marks hs → length xs ≡ length hs → count marks ≡ length xs
-      → All (Zero o) (clear o marks hs (mix o (length marks) hs xs))
-  clear_mix marks hs xs h e c = subst (λ w. All (Zero o) (plus o v (map neg w))) (sym same) (Mixing.all_away l v)
+      → AllByRecursion (Zero o) (clear o marks hs (mix o (length marks) hs xs))
+  clear_mix marks hs xs h e c = subst (λ w. AllByRecursion (Zero o) (plus o v (map neg w))) (sym same) (Mixing.all_away l v)
     where
       v : List F
       v = mix o (length marks) hs xs
@@ -101,23 +101,23 @@ module _ {F : Type 0} {o : Ops F} (l : Laws o) where
           ∙ ap (λ w. mix o (length marks) hs w) (Mixing.pick_mix l 0 marks hs xs h e (omega arith))
 
   -- Images of what is spanned are spanned by the images.
-  all_image : (T : F → F) → Evaluation.Linear l T → (es v : List F) → All (Spanned o es) v → All (Spanned o (map T es)) (map T v)
+  all_image : (T : F → F) → Evaluation.Linear l T → (es v : List F) → AllByRecursion (Spanned o es) v → AllByRecursion (Spanned o (map T es)) (map T v)
   all_image T L es [] h = tt
   all_image T L es (x ∷ v) h =
       ((h.0.0, h.0.1 ∙ sym (length-map es T), h.0.2, ap T h.0.3 ∙ sym (Evaluation.comb_map l T L h.0.0 es h.0.2)), all_image T L es v h.1)
 
   -- Elements that become zero become what is spanned.
-  none_image : (T : F → F) (P : F → Type 0) → ((x : F) → P x → T x ≡ zero) → (es v : List F) → All P v → All (Spanned o es) (map T v)
+  none_image : (T : F → F) (P : F → Type 0) → ((x : F) → P x → T x ≡ zero) → (es v : List F) → AllByRecursion P v → AllByRecursion (Spanned o es) (map T v)
   none_image T P z es [] h = tt
   none_image T P z es (x ∷ v) h = (subst (Spanned o es) (sym (z x h.0)) (Spans.spanned_zero l es), none_image T P z es v h.1)
 
   -- Of a difference that splits, what is left after clearing, under a linear map that takes the row hints to zero, is spanned by the
   -- images of what spans the full part.
   pub left_over : (T : F → F) → Evaluation.Linear l T → (n : ℕ) (marks : List Bool) (g : Given F) (e : List F) (p : Parts F) (es : List F)
-      → length e ≡ n → Reduced o n marks g.columns → ((x : F) → Spanned o g.rows x → T x ≡ zero) → Splits o g e p → All (Spanned o es) p.full
-      → All (Spanned o (map T es)) (map T (clear o marks g.columns e))
+      → length e ≡ n → Reduced o n marks g.columns → ((x : F) → Spanned o g.rows x → T x ≡ zero) → Splits o g e p → AllByRecursion (Spanned o es) p.full
+      → AllByRecursion (Spanned o (map T es)) (map T (clear o marks g.columns e))
   left_over T L n marks g e p es len red kills P h =
-      subst (All (Spanned o (map T es))) (sym are)
+      subst (AllByRecursion (Spanned o (map T es))) (sym are)
       (all_sum (map T es) (map T (cleared p.full)) _ (all_image T L es (cleared p.full) (clear_spanned marks g.columns es p.full fixed h))
       (all_sum (map T es) (map T (cleared p.row)) (map T (cleared p.column))
       (none_image T (Spanned o g.rows) kills (map T es) (cleared p.row) (clear_spanned marks g.columns g.rows p.row fixed P.rows))
@@ -126,15 +126,15 @@ module _ {F : Type 0} {o : Ops F} (l : Laws o) where
       cleared : List F → List F
       cleared v = clear o marks g.columns v
 
-      fixed : All (All (Fixed o)) g.columns
+      fixed : AllByRecursion (AllByRecursion (Fixed o)) g.columns
       fixed = Inserting.fixed_list l g.columns n red.rows
 
       column_is : p.column ≡ mix o (length marks) g.columns P.columns.0
       column_is = P.columns.2 ∙ ap (λ i. mix o i g.columns P.columns.0) (len ∙ sym red.size)
 
-      gone : All (Zero o) (clear o marks g.columns p.column)
+      gone : AllByRecursion (Zero o) (clear o marks g.columns p.column)
       gone =
-          subst (λ w. All (Zero o) (clear o marks g.columns w)) (sym column_is)
+          subst (λ w. AllByRecursion (Zero o) (clear o marks g.columns w)) (sym column_is)
           (clear_mix marks g.columns P.columns.0 red.pivots P.columns.1 (omega (arith, red.full, P.columns.1)))
 
       length_column : length p.column ≡ length e

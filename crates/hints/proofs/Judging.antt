@@ -3,7 +3,7 @@ use Rattle.std.proofs.Common.{◌≡◌, ℕ, suc, ◌+◌, ◌-◌, ◌<◌, �
 use Rattle.std.proofs.Math.Decide.{ℕ_discrete}
 use Rattle.std.proofs.lemmas.List.{length-map, length-replicate, get_or-replicate}
 use Rattle.std.proofs.lemmas.Bool.{cases_lt}
-use Rattle.fields.specs.Lists.{All}
+use Rattle.std.specs.List.{AllByRecursion}
 use Rattle.fields.specs.Field as field
 use Rattle.fields.specs.Meaning.{Meaning, Laws, digit_row}
 use Rattle.fields.specs.Elements.{Elem, elem, elems, ops}
@@ -43,7 +43,7 @@ module _ {m : Meaning} (l : Laws m) where
   laws = Carrier.ops_laws l
 
   -- A form with one row more holds one row more.
-  pub form_more : {f g : Form} {h : List (Elem m)} (hs : List (List (Elem m))) → Row (ops m) 8 h → All (Row (ops m) 8) hs → FormHolds m f hs → Extended m f h g → FormHolds m g (h ∷ hs)
+  pub form_more : {f g : Form} {h : List (Elem m)} (hs : List (List (Elem m))) → Row (ops m) 8 h → AllByRecursion (Row (ops m) 8) hs → FormHolds m f hs → Extended m f h g → FormHolds m g (h ∷ hs)
   form_more {f} {g} {h} hs row rows held more = record {
     form = more.form;
     size = more.more ∙ ap suc held.size;
@@ -53,7 +53,7 @@ module _ {m : Meaning} (l : Laws m) where
   }
 
   -- The digits of elements are rows.
-  digit_rows : (us : List (Elem m)) → All (Row (ops m) 8) (map (eight m) us)
+  digit_rows : (us : List (Elem m)) → AllByRecursion (Row (ops m) 8) (map (eight m) us)
   digit_rows [] = tt
   digit_rows (u ∷ us) = ((Ranking.numerals l).fixed u, digit_rows us)
 
@@ -71,7 +71,7 @@ module _ {m : Meaning} (l : Laws m) where
     pub row_more : {g : Form} → Extended m f (eight m x) g → FormHolds m g (map (eight m) (x ∷ us))
     row_more more = form_more (map (eight m) us) ((Ranking.numerals l).fixed x) (digit_rows us) held more
 
-  module _ {f : Form} (n : ℕ) (few : n ≤ 8) (hs : List (List (Elem m))) (rows : All (Row (ops m) n) hs) (held : FormHolds m f (map (padded m) hs)) (h : List (Elem m)) (row : Row (ops m) n h) where
+  module _ {f : Form} (n : ℕ) (few : n ≤ 8) (hs : List (List (Elem m))) (rows : AllByRecursion (Row (ops m) n) hs) (held : FormHolds m f (map (padded m) hs)) (h : List (Elem m)) (row : Row (ops m) n h) where
     -- The zeros behind.
     wide : n + (8 - n) ≡ 8
     wide = omega arith
@@ -79,7 +79,7 @@ module _ {m : Meaning} (l : Laws m) where
     pad : (u : List (Elem m)) → length u ≡ n → Padding.behind (ops m) (8 - n) u ≡ padded m u
     pad u e = ap (λ k. u ++ replicate (8 - k) (ops m).zero) (sym e)
 
-    pads : (us : List (List (Elem m))) → All (Row (ops m) n) us → map (Padding.behind (ops m) (8 - n)) us ≡ map (padded m) us
+    pads : (us : List (List (Elem m))) → AllByRecursion (Row (ops m) n) us → map (Padding.behind (ops m) (8 - n)) us ≡ map (padded m) us
     pads [] r = refl
     pads (u ∷ us) r = ap (λ w. w ∷ map (Padding.behind (ops m) (8 - n)) us) (pad u r.0.0) ∙ ap (λ w. padded m u ∷ w) (pads us r.1)
 
@@ -88,8 +88,8 @@ module _ {m : Meaning} (l : Laws m) where
     column_row = subst (Row (ops m) 8) (pad h row.0) (subst (λ k. Row (ops m) k (Padding.behind (ops m) (8 - n) h)) wide (Padding.row_behind laws n (8 - n) h row))
 
     -- So have all.
-    column_rows : All (Row (ops m) 8) (map (padded m) hs)
-    column_rows = subst (All (Row (ops m) 8)) (pads hs rows) (subst (λ k. All (Row (ops m) k) (map (Padding.behind (ops m) (8 - n)) hs)) wide (Padding.rows_behind laws n (8 - n) hs rows))
+    column_rows : AllByRecursion (Row (ops m) 8) (map (padded m) hs)
+    column_rows = subst (AllByRecursion (Row (ops m) 8)) (pads hs rows) (subst (λ k. AllByRecursion (Row (ops m) k) (map (Padding.behind (ops m) (8 - n)) hs)) wide (Padding.rows_behind laws n (8 - n) hs rows))
 
     -- Told with zeros behind and without.
     same : AmongRows (ops m) (n + (8 - n)) (map (Padding.behind (ops m) (8 - n)) hs) (Padding.behind (ops m) (8 - n) h) ≡ AmongRows (ops m) 8 (map (padded m) hs) (padded m h)
@@ -189,7 +189,7 @@ module _ {m : Meaning} (l : Laws m) where
       padding = ap (elems m) (behind (omega (arith, column_size, few))) ∙ padded_numbers m c
 
       -- Coefficients that are fixed codes are fixed elements.
-      all_fixed : (d : List ℕ) → AllNot (Unfixed m) d → All (field.Fixed (ops m)) (elems m d)
+      all_fixed : (d : List ℕ) → AllNot (Unfixed m) d → AllByRecursion (field.Fixed (ops m)) (elems m d)
       all_fixed [] u = tt
       all_fixed (x ∷ d) u = (stays x (u 0 (omega arith)), all_fixed d (λ j k. u (suc j) (omega arith)))
         where
@@ -253,4 +253,4 @@ none_held {f} h empty eb er ec m ns k few most =
     }
   where
     holds : FormHolds m f []
-    holds = record { form = (empty m).0; size = ap length (empty m).1; from = subst (All (AmongRows (ops m) 8 [])) (sym (empty m).1) tt; back = tt }
+    holds = record { form = (empty m).0; size = ap length (empty m).1; from = subst (AllByRecursion (AmongRows (ops m) 8 [])) (sym (empty m).1) tt; back = tt }

@@ -7,7 +7,7 @@
 --                           what it leaves
 use Rattle.std.proofs.Common.{◌≡◌, ℕ, ◌≤◌, Bool, List, [], ◌∷◌, map, length, sym, refl, ap, ◌∙◌, arith}
 use Rattle.std.proofs.lemmas.List.{length-map}
-use Rattle.fields.specs.Lists.{All}
+use Rattle.std.specs.List.{AllByRecursion}
 use Rattle.fields.specs.Field.{Ops, Laws, Fixed, plus}
 use Rattle.fields.specs.Basics.{ring}
 use Rattle.skew.proofs.Evaluation
@@ -60,7 +60,7 @@ module _ {F : Type 0} {o : Ops F} (l : Laws o) where
       gather y = simp (ring, l)
 
   -- What is taken off is spanned.
-  all_off : (T : F → F) (rows v : List F) → ((x : F) → Spanned o rows (x + neg (T x))) → All (Spanned o rows) (map (λ x. x + neg (T x)) v)
+  all_off : (T : F → F) (rows v : List F) → ((x : F) → Spanned o rows (x + neg (T x))) → AllByRecursion (Spanned o rows) (map (λ x. x + neg (T x)) v)
   all_off T rows [] h = tt
   all_off T rows (x ∷ v) h = (h x, all_off T rows v h)
 

@@ -2,7 +2,7 @@
 --
 --   Like o n g h     g and h are alike, and their column hints are rows of n fixed coefficients
 use Rattle.std.proofs.Common.{◌≡◌, ℕ, ◌≤◌, List, [], ◌∷◌, map, length, sym, refl, ◌∙◌, subst, arith}
-use Rattle.fields.specs.Lists.{All}
+use Rattle.std.specs.List.{AllByRecursion}
 use Rattle.fields.specs.Field.{Ops, Laws, Fixed}
 use Rattle.ranks.specs.Reduction.{mix, Row, AmongRows}
 use Rattle.ranks.proofs.Spans
@@ -13,8 +13,8 @@ use Rattle.hints.proofs.FreeRows
 
 pub record Like {F : Type 0} (o : Ops F) (n : ℕ) (g h : Given F) : Type 0 where
   pub alike : Alike o n g h
-  pub fit : All (Row o n) g.columns
-  pub fit_other : All (Row o n) h.columns
+  pub fit : AllByRecursion (Row o n) g.columns
+  pub fit_other : AllByRecursion (Row o n) h.columns
 
 module _ {F : Type 0} {o : Ops F} where
   -- The other way round.
@@ -45,11 +45,11 @@ module _ {F : Type 0} {o : Ops F} (l : Laws o) where
     columns = (again.0, again.1, P.columns.2 ∙ again.3);
   }
     where
-      again : (ys : List F) × (length ys ≡ length h.columns) × (All (Fixed o) P.columns.0 → All (Fixed o) ys) × (mix o (length e) g.columns P.columns.0 ≡ mix o (length e) h.columns ys)
+      again : (ys : List F) × (length ys ≡ length h.columns) × (AllByRecursion (Fixed o) P.columns.0 → AllByRecursion (Fixed o) ys) × (mix o (length e) g.columns P.columns.0 ≡ mix o (length e) h.columns ys)
       again =
           Mixing.mix_again l (length e) g.columns h.columns P.columns.0 P.columns.1
-          (subst (λ i. All (Row o i) g.columns) (sym len) k.fit)
-          (subst (λ i. All (AmongRows o i h.columns) g.columns) (sym len) k.alike.columns_back)
+          (subst (λ i. AllByRecursion (Row o i) g.columns) (sym len) k.fit)
+          (subst (λ i. AllByRecursion (AmongRows o i h.columns) g.columns) (sym len) k.alike.columns_back)
 
   -- Parts of least rank are so under both.
   pub least_like : (n : ℕ) (g h : Given F) (e : List F) (p : Parts F) → length e ≡ n → Like o n g h → LeastParts o g e p → LeastParts o h e p

@@ -5,7 +5,7 @@ use Rattle.std.proofs.Common.{◌≡◌, ℕ, suc, ◌+◌ as ◌+ℕ◌, ◌≤
 use Rattle.std.proofs.lemmas.List.{length-map}
 use Rattle.std.proofs.Math.Seq.{drop-nil, take-nil}
 use Rattle.std.proofs.lemmas.List.{length-take-le, take_at, drop_at, take-map}
-use Rattle.fields.specs.Lists.{All}
+use Rattle.std.specs.List.{AllByRecursion}
 use Rattle.fields.specs.Field.{Ops, Laws, Zero, Fixed, plus, comb}
 use Rattle.fields.specs.Basics
 use Rattle.fields.specs.Basics.{ring}
@@ -17,10 +17,10 @@ use Rattle.ranks.specs.Reduction.{count, heads, tails, mix, Row, AmongRows, unit
 use Rattle.ranks.specs.RowSteps.{clear}
 
 abbrev pub Late : {F : Type 0} → Ops F → ℕ → List F → Type 0
-Late o n h = All (Zero o) (drop n h)
+Late o n h = AllByRecursion (Zero o) (drop n h)
 
 -- What holds of each element of a list holds of its first ones.
-all_take : {A : Type 0} (P : A → Type 0) (n : ℕ) (xs : List A) → All P xs → All P (take n xs)
+all_take : {A : Type 0} (P : A → Type 0) (n : ℕ) (xs : List A) → AllByRecursion P xs → AllByRecursion P (take n xs)
 all_take P ℕ.zero xs k = tt
 all_take P (suc n) [] k = tt
 all_take P (suc n) (x ∷ xs) k = (k.0, all_take P n xs k.1)
@@ -55,36 +55,36 @@ module _ {F : Type 0} {o : Ops F} (l : Laws o) where
   infixl 65 ◌+◌
   infixl 70 ◌*◌
   -- The rows from the next place on.
-  late_tails : (n : ℕ) (hs : List (List F)) → All (Late o (suc n)) hs → All (Late o n) (tails o hs)
+  late_tails : (n : ℕ) (hs : List (List F)) → AllByRecursion (Late o (suc n)) hs → AllByRecursion (Late o n) (tails o hs)
   late_tails n [] k = tt
-  late_tails n (h ∷ hs) k = (subst (All (Zero o)) (sym (drop_next n h)) k.0, late_tails n hs k.1)
+  late_tails n (h ∷ hs) k = (subst (AllByRecursion (Zero o)) (sym (drop_next n h)) k.0, late_tails n hs k.1)
 
   -- Rows of zeros: their first entries.
-  zero_heads : (hs : List (List F)) → All (Late o 0) hs → All (Zero o) (heads o hs)
+  zero_heads : (hs : List (List F)) → AllByRecursion (Late o 0) hs → AllByRecursion (Zero o) (heads o hs)
   zero_heads [] k = tt
   zero_heads (h ∷ hs) k = (Multiplication.coef_of l h k.0 0, zero_heads hs k.1)
 
   -- And what follows.
-  zero_tails : (hs : List (List F)) → All (Late o 0) hs → All (Late o 0) (tails o hs)
+  zero_tails : (hs : List (List F)) → AllByRecursion (Late o 0) hs → AllByRecursion (Late o 0) (tails o hs)
   zero_tails [] k = tt
   zero_tails ([] ∷ hs) k = (tt, zero_tails hs k.1)
   zero_tails ((x ∷ h) ∷ hs) k = (k.0.1, zero_tails hs k.1)
 
   -- A combination with zeros as coefficients.
-  comb_none : (cs xs : List F) → All (Zero o) cs → comb o cs xs ≡ zero
+  comb_none : (cs xs : List F) → AllByRecursion (Zero o) cs → comb o cs xs ≡ zero
   comb_none [] xs k = refl
   comb_none (c ∷ cs) [] k = refl
   comb_none (c ∷ cs) (x ∷ xs) k = ap (λ w. w * x + comb o cs xs) k.0 ∙ ap (λ w. zero * x + w) (comb_none cs xs k.1) ∙ simp (ring, l)
 
   -- A sum of rows that are zero from place n on.
-  late_mix : (n m : ℕ) (hs : List (List F)) (xs : List F) → All (Late o n) hs → Late o n (mix o m hs xs)
+  late_mix : (n m : ℕ) (hs : List (List F)) (xs : List F) → AllByRecursion (Late o n) hs → Late o n (mix o m hs xs)
   late_mix ℕ.zero ℕ.zero hs xs k = tt
   late_mix (suc n) ℕ.zero hs xs k = tt
   late_mix ℕ.zero (suc m) hs xs k = (comb_none (heads o hs) xs (zero_heads hs k), late_mix ℕ.zero m (tails o hs) xs (zero_tails hs k))
   late_mix (suc n) (suc m) hs xs k = late_mix n m (tails o hs) xs (late_tails n hs k)
 
   -- What they span is so too.
-  pub all_late : (n m : ℕ) (hs rs : List (List F)) → All (Late o n) hs → All (AmongRows o m hs) rs → All (Late o n) rs
+  pub all_late : (n m : ℕ) (hs rs : List (List F)) → AllByRecursion (Late o n) hs → AllByRecursion (AmongRows o m hs) rs → AllByRecursion (Late o n) rs
   all_late n m hs [] k s = tt
   all_late n m hs (r ∷ rs) k s = (subst (Late o n) (sym s.0.3) (late_mix n m hs s.0.0 k), all_late n m hs rs k s.1)
 
@@ -107,7 +107,7 @@ module _ {F : Type 0} {o : Ops F} (l : Laws o) where
       cons_path (ap (λ w. comb o w xs) (sym (take_heads n hs))) (take_mix n m (tails o hs) xs (omega arith) ∙ ap (λ w. mix o n w xs) (sym (take_tails n hs)))
 
   -- What rows span, their first places span.
-  pub all_among_take : (n m : ℕ) (hs rs : List (List F)) → n ≤ m → All (AmongRows o m hs) rs → All (AmongRows o n (map (take n) hs)) (map (take n) rs)
+  pub all_among_take : (n m : ℕ) (hs rs : List (List F)) → n ≤ m → AllByRecursion (AmongRows o m hs) rs → AllByRecursion (AmongRows o n (map (take n) hs)) (map (take n) rs)
   all_among_take n m hs [] e s = tt
   all_among_take n m hs (r ∷ rs) e s =
       ((s.0.0, s.0.1 ∙ sym (length-map hs (take n)), s.0.2, ap (take n) s.0.3 ∙ take_mix n m hs s.0.0 e), all_among_take n m hs rs e s.1)
@@ -119,7 +119,7 @@ module _ {F : Type 0} {o : Ops F} (l : Laws o) where
   unit_one (suc n) (suc j) e = unit_one n j (omega arith)
 
   -- Rows that are zero from place n on have no pivots from there on.
-  narrow_count : (n j : ℕ) (marks : List Bool) (hs : List (List F)) → Pivots o j marks hs → j +ℕ count marks ≡ length hs → All (Late o n) hs → count (take n marks) ≡ count marks
+  narrow_count : (n j : ℕ) (marks : List Bool) (hs : List (List F)) → Pivots o j marks hs → j +ℕ count marks ≡ length hs → AllByRecursion (Late o n) hs → count (take n marks) ≡ count marks
   narrow_count ℕ.zero j [] hs h c k = refl
   narrow_count ℕ.zero j (true ∷ marks) hs h c k =
       absurd (Basics.one_zero l (sym (unit_one (length hs) j (omega arith)) ∙ ap (λ w. coef o w j) (sym h.0) ∙ Multiplication.coef_of l (heads o hs) (zero_heads hs k) j))
@@ -139,12 +139,12 @@ module _ {F : Type 0} {o : Ops F} (l : Laws o) where
   narrow_pivots (suc n) j (false ∷ marks) hs h = subst (Pivots o j (take n marks)) (sym (take_tails n hs)) (narrow_pivots n j marks (tails o hs) h)
 
   -- The first places of rows are rows.
-  narrow_rows : (n m : ℕ) (hs : List (List F)) → n ≤ m → All (Row o m) hs → All (Row o n) (map (take n) hs)
+  narrow_rows : (n m : ℕ) (hs : List (List F)) → n ≤ m → AllByRecursion (Row o m) hs → AllByRecursion (Row o n) (map (take n) hs)
   narrow_rows n m [] e k = tt
   narrow_rows n m (h ∷ hs) e k = ((length-take-le n h (omega (arith, k.0.0)), all_take (Fixed o) n h k.0.1), narrow_rows n m hs e k.1)
 
   -- Reduced rows that are zero from place n on are reduced before it.
-  pub narrow_reduced : (n m : ℕ) (marks : List Bool) (hs : List (List F)) → n ≤ m → Reduced o m marks hs → All (Late o n) hs → Reduced o n (take n marks) (map (take n) hs)
+  pub narrow_reduced : (n m : ℕ) (marks : List Bool) (hs : List (List F)) → n ≤ m → Reduced o m marks hs → AllByRecursion (Late o n) hs → Reduced o n (take n marks) (map (take n) hs)
   narrow_reduced n m marks hs e red k = record {
     size = length-take-le n marks (omega (arith, red.size));
     full = narrow_count n 0 marks hs red.pivots (omega (arith, red.full)) k ∙ red.full ∙ sym (length-map hs (take n));
@@ -173,7 +173,7 @@ module _ {F : Type 0} {o : Ops F} (l : Laws o) where
   late_neg (suc n) [] h = tt
   late_neg (suc n) (x ∷ v) h = late_neg n v h
 
-  module _ (marks : List Bool) (hs : List (List F)) (v z : List F) (red : Reduced o (length (v ++ z)) marks hs) (k : All (Late o (length v)) hs) where
+  module _ (marks : List Bool) (hs : List (List F)) (v z : List F) (red : Reduced o (length (v ++ z)) marks hs) (k : AllByRecursion (Late o (length v)) hs) where
     -- A row with zeros behind is cleared before them alone.
     pub clear_front : clear o (take (length v) marks) (map (take (length v)) hs) v ≡ take (length v) (clear o marks hs (v ++ z))
     clear_front =
@@ -187,7 +187,7 @@ module _ {F : Type 0} {o : Ops F} (l : Laws o) where
         picks = pick_front marks v z (narrow_count (length v) 0 marks hs red.pivots (omega (arith, red.full)) k)
 
     -- And stays zero there.
-    pub clear_behind : All (Zero o) z → Late o (length v) (clear o marks hs (v ++ z))
+    pub clear_behind : AllByRecursion (Zero o) z → Late o (length v) (clear o marks hs (v ++ z))
     clear_behind zs =
-        late_plus (length v) (v ++ z) (map neg (mix o (length (v ++ z)) hs (pick marks (v ++ z)))) (subst (All (Zero o)) (sym (drop_at v z (length v) refl)) zs)
+        late_plus (length v) (v ++ z) (map neg (mix o (length (v ++ z)) hs (pick marks (v ++ z)))) (subst (AllByRecursion (Zero o)) (sym (drop_at v z (length v) refl)) zs)
         (late_neg (length v) (mix o (length (v ++ z)) hs (pick marks (v ++ z))) (late_mix (length v) (length (v ++ z)) hs (pick marks (v ++ z)) k))

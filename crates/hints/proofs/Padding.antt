@@ -4,7 +4,7 @@
 use Rattle.std.proofs.Common.{◌≡◌, ℕ, suc, ◌+◌ as ◌+ℕ◌, ◌-◌, List, [], ◌∷◌, ◌++◌, map, length, replicate, sym, refl, ap, ◌∙◌, arith, length-append}
 use Rattle.std.proofs.lemmas.List.{length-map, length-replicate}
 use Rattle.std.proofs.lemmas.List.{map-append}
-use Rattle.fields.specs.Lists.{All}
+use Rattle.std.specs.List.{AllByRecursion}
 use Rattle.fields.specs.Field.{Ops, Laws, Zero, Fixed, plus, scale}
 use Rattle.fields.specs.Meaning.{Meaning}
 use Rattle.fields.specs.Elements.{elem, elems, ops}
@@ -24,7 +24,7 @@ module _ {F : Type 0} {o : Ops F} (l : Laws o) where
   open o use {zero}
 
   -- They are zeros.
-  pub zeros_zero : (k : ℕ) → All (Zero o) (replicate k zero)
+  pub zeros_zero : (k : ℕ) → AllByRecursion (Zero o) (replicate k zero)
   zeros_zero ℕ.zero = tt
   zeros_zero (suc k) = (refl, zeros_zero k)
 
@@ -37,12 +37,12 @@ module _ {F : Type 0} {o : Ops F} (l : Laws o) where
     )
 
     -- So each of a list.
-    pub rows_behind : (hs : List (List F)) → All (Row o n) hs → All (Row o (n +ℕ k)) (map (behind o k) hs)
+    pub rows_behind : (hs : List (List F)) → AllByRecursion (Row o n) hs → AllByRecursion (Row o (n +ℕ k)) (map (behind o k) hs)
     rows_behind [] r = tt
     rows_behind (h ∷ hs) r = (row_behind h r.0, rows_behind hs r.1)
 
     -- Sums of rows with zeros behind.
-    pub mix_behind : (hs : List (List F)) (xs : List F) → length xs ≡ length hs → All (λ h. length h ≡ n) hs → mix o (n +ℕ k) (map (behind o k) hs) xs ≡ behind o k (mix o n hs xs)
+    pub mix_behind : (hs : List (List F)) (xs : List F) → length xs ≡ length hs → AllByRecursion (λ h. length h ≡ n) hs → mix o (n +ℕ k) (map (behind o k) hs) xs ≡ behind o k (mix o n hs xs)
     mix_behind [] [] e r =
         Ranking.same_zeros l (mix o (n +ℕ k) [] []) (behind o k (mix o n [] []))
         (Mixing.length_mix l (n +ℕ k) [] [] ∙ sym (length-append (mix o n [] []) (replicate k zero) ∙ omega (arith, Mixing.length_mix l n [] [], length-replicate k zero)))
@@ -57,16 +57,16 @@ module _ {F : Type 0} {o : Ops F} (l : Laws o) where
         ∙ ap (behind o k) (sym (Mixing.mix_cons l n h hs x xs r.0))
 
     -- The lengths of rows.
-    pub lengths_of : (hs : List (List F)) → All (Row o n) hs → All (λ h. length h ≡ n) hs
+    pub lengths_of : (hs : List (List F)) → AllByRecursion (Row o n) hs → AllByRecursion (λ h. length h ≡ n) hs
     lengths_of [] r = tt
     lengths_of (h ∷ hs) r = (r.0.0, lengths_of hs r.1)
 
     -- What rows span, they span with zeros behind.
-    pub among_behind : (hs : List (List F)) (h : List F) → All (Row o n) hs → AmongRows o n hs h → AmongRows o (n +ℕ k) (map (behind o k) hs) (behind o k h)
+    pub among_behind : (hs : List (List F)) (h : List F) → AllByRecursion (Row o n) hs → AmongRows o n hs h → AmongRows o (n +ℕ k) (map (behind o k) hs) (behind o k h)
     among_behind hs h r s = (s.0, s.1 ∙ sym (length-map hs (behind o k)), s.2, ap (behind o k) s.3 ∙ sym (mix_behind hs s.0 s.1 (lengths_of hs r)))
 
     -- And no more.
-    pub among_before : (hs : List (List F)) (h : List F) → All (Row o n) hs → length h ≡ n → AmongRows o (n +ℕ k) (map (behind o k) hs) (behind o k h) → AmongRows o n hs h
+    pub among_before : (hs : List (List F)) (h : List F) → AllByRecursion (Row o n) hs → length h ≡ n → AmongRows o (n +ℕ k) (map (behind o k) hs) (behind o k h) → AmongRows o n hs h
     among_before hs h r e s =
         let size : length s.0 ≡ length hs = s.1 ∙ length-map hs (behind o k) in
         (s.0, size, s.2, Ranking.before_same l h (mix o n hs s.0) (replicate k zero) (e ∙ sym (Mixing.length_mix l n hs s.0)) (s.3 ∙ mix_behind hs s.0 size (lengths_of hs r)))

@@ -5,7 +5,7 @@
 use Rattle.std.proofs.Common.{◌≡◌, ℕ, suc, ◌+◌, ◌<◌, ◌≤◌, List, [], ◌∷◌, ◌++◌, length, get_or, take, drop, sym, refl, ap, ◌∙◌, subst, add_assoc, add-one, arith, length-append, length-drop, drop-cons}
 use Rattle.std.proofs.lemmas.List.{length-map}
 use Rattle.std.proofs.lemmas.List.{append-nil, append_assoc, map-append, take_all, take_at, take-map, drop_at, drop_all, drop-drop, drop-map, length-take-le}
-use Rattle.fields.specs.Lists.{All}
+use Rattle.std.specs.List.{AllByRecursion}
 use Rattle.fields.specs.Field as field
 use Rattle.fields.specs.Meaning.{Meaning, Laws}
 use Rattle.fields.specs.Elements.{Elem, elem, elems, codes, ops}
@@ -61,7 +61,7 @@ front_block {F} {o} g gs n ns v p f r c ef er ec k h =
         (ap (λ w. parts_from ns w (drop n (p.row ++ r)) (drop n (p.column ++ c))) (drop_at p.full f n ef) ∙ ap (λ w. parts_from ns f w (drop n (p.column ++ c))) (drop_at p.row r n er) ∙ ap (parts_from ns f r) (drop_at p.column c n ec))
 
 -- What is at a place, where it holds of all.
-pub all_at : (P : ℕ → Type 0) (ns : List ℕ) (i : ℕ) → i < length ns → All P ns → P (get_or ns i 0)
+pub all_at : (P : ℕ → Type 0) (ns : List ℕ) (i : ℕ) → i < length ns → AllByRecursion P ns → P (get_or ns i 0)
 all_at P [] i lt k = absurd (omega arith)
 all_at P (n ∷ ns) ℕ.zero lt k = k.0
 all_at P (n ∷ ns) (suc i) lt k = all_at P ns i (omega arith) k.1

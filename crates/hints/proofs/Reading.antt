@@ -5,7 +5,7 @@ use Rattle.std.proofs.Common.{◌≡◌, ℕ, suc, ◌-◌, ◌≤◌, List, [],
 use Rattle.std.proofs.Math.Path.{fun_ext}
 use Rattle.std.proofs.lemmas.List.{length-map, length-replicate}
 use Rattle.std.proofs.lemmas.List.{take_at, drop_at}
-use Rattle.fields.specs.Lists.{All}
+use Rattle.std.specs.List.{AllByRecursion}
 use Rattle.fields.specs.Field.{Zero, comb}
 use Rattle.fields.specs.Field as field
 use Rattle.fields.specs.Meaning.{Meaning, Laws}
@@ -55,7 +55,7 @@ module _ {m : Meaning} (l : Laws m) where
   all_from_eight (x ∷ xs) = cons_path (from_eight x) (all_from_eight xs)
 
   -- Zeros.
-  zeros_behind : (n : ℕ) → All (Zero (ops m)) (replicate n (ops m).zero)
+  zeros_behind : (n : ℕ) → AllByRecursion (Zero (ops m)) (replicate n (ops m).zero)
   zeros_behind ℕ.zero = tt
   zeros_behind (suc n) = (refl, zeros_behind n)
 
@@ -64,19 +64,19 @@ module _ {m : Meaning} (l : Laws m) where
   length_padded v le = length-append v (replicate (8 - length v) (ops m).zero) ∙ omega (arith, length-replicate (8 - length v) (ops m).zero)
 
   -- The first places of rows with zeros behind are the rows.
-  padded_front : (n : ℕ) (hs : List (List (Elem m))) → All (Row (ops m) n) hs → map (take n) (map (padded m) hs) ≡ hs
+  padded_front : (n : ℕ) (hs : List (List (Elem m))) → AllByRecursion (Row (ops m) n) hs → map (take n) (map (padded m) hs) ≡ hs
   padded_front n [] k = refl
   padded_front n (h ∷ hs) k = cons_path (take_at h (replicate (8 - length h) (ops m).zero) n k.0.0) (padded_front n hs k.1)
 
   -- The others are zero.
-  padded_late : (n : ℕ) (hs : List (List (Elem m))) → All (Row (ops m) n) hs → All (Late (ops m) n) (map (padded m) hs)
+  padded_late : (n : ℕ) (hs : List (List (Elem m))) → AllByRecursion (Row (ops m) n) hs → AllByRecursion (Late (ops m) n) (map (padded m) hs)
   padded_late n [] k = tt
   padded_late n (h ∷ hs) k =
-      (subst (All (Zero (ops m))) (sym (drop_at h (replicate (8 - length h) (ops m).zero) n k.0.0)) (zeros_behind (8 - length h)), padded_late n hs k.1)
+      (subst (AllByRecursion (Zero (ops m))) (sym (drop_at h (replicate (8 - length h) (ops m).zero) n k.0.0)) (zeros_behind (8 - length h)), padded_late n hs k.1)
 
   module _ {n : ℕ} {b : BlockHints} {g : Given (Elem m)} (le : n ≤ 8) (k : BlockHolds m n b g) where
     -- The rows of digits are those of elements that the row hints span.
-    lifted : (es : List (Elem m)) × (map (eight m) es ≡ rows_of m b.rows) × All (Spanned (ops m) g.rows) es
+    lifted : (es : List (Elem m)) × (map (eight m) es ≡ rows_of m b.rows) × AllByRecursion (Spanned (ops m) g.rows) es
     lifted = Ranking.lifted laws 8 (eight m) (Ranking.numerals l) g.rows (rows_of m b.rows) k.rows.from
 
     -- The row hints that are shown are these elements.
@@ -100,7 +100,7 @@ module _ {m : Meaning} (l : Laws m) where
             ∙ ap (from_digits m) (sym (ByDigits.clear_digits laws 8 (eight m) (Ranking.numerals l) (marks_of b.rows) (shown m n b).rows formed x)) ∙ from_eight _
 
     -- The rows of the column hints are zero behind the block.
-    columns_late : All (Late (ops m) n) (rows_of m b.columns)
+    columns_late : AllByRecursion (Late (ops m) n) (rows_of m b.columns)
     columns_late = Narrow.all_late laws n 8 (map (padded m) g.columns) (rows_of m b.columns) (padded_late n g.columns k.fit) k.columns.from
 
     -- The hints that are shown lead to the least splitting.
@@ -111,10 +111,10 @@ module _ {m : Meaning} (l : Laws m) where
     pub block_alike : Like (ops m) n (shown m n b) g
     block_alike = record {
       alike = record {
-        rows = subst (λ es. All (Spanned (ops m) es) g.rows) (sym rows_are) (Ranking.all_down laws 8 (eight m) (Ranking.numerals l) lifted.0 g.rows (subst (λ rs. All (AmongRows (ops m) 8 rs) (map (eight m) g.rows)) (sym lifted.1) k.rows.back));
-        rows_back = subst (All (Spanned (ops m) g.rows)) (sym rows_are) lifted.2;
-        columns = subst (All (AmongRows (ops m) n (shown m n b).columns)) (padded_front n g.columns k.fit) (Narrow.all_among_take laws n 8 (rows_of m b.columns) (map (padded m) g.columns) le k.columns.back);
-        columns_back = subst (λ hs. All (AmongRows (ops m) n hs) (shown m n b).columns) (padded_front n g.columns k.fit) (Narrow.all_among_take laws n 8 (map (padded m) g.columns) (rows_of m b.columns) le k.columns.from);
+        rows = subst (λ es. AllByRecursion (Spanned (ops m) es) g.rows) (sym rows_are) (Ranking.all_down laws 8 (eight m) (Ranking.numerals l) lifted.0 g.rows (subst (λ rs. AllByRecursion (AmongRows (ops m) 8 rs) (map (eight m) g.rows)) (sym lifted.1) k.rows.back));
+        rows_back = subst (AllByRecursion (Spanned (ops m) g.rows)) (sym rows_are) lifted.2;
+        columns = subst (AllByRecursion (AmongRows (ops m) n (shown m n b).columns)) (padded_front n g.columns k.fit) (Narrow.all_among_take laws n 8 (rows_of m b.columns) (map (padded m) g.columns) le k.columns.back);
+        columns_back = subst (λ hs. AllByRecursion (AmongRows (ops m) n hs) (shown m n b).columns) (padded_front n g.columns k.fit) (Narrow.all_among_take laws n 8 (map (padded m) g.columns) (rows_of m b.columns) le k.columns.from);
       };
       fit = block_leads.reduced.rows;
       fit_other = k.fit;
@@ -139,5 +139,5 @@ module _ {m : Meaning} (l : Laws m) where
         red : Reduced (ops m) (length (padded m v)) (marks_of b.columns) (rows_of m b.columns)
         red = subst (λ i. Reduced (ops m) i (marks_of b.columns) (rows_of m b.columns)) (sym (length_padded v (omega arith))) k.columns.form.reduced
 
-        late : All (Late (ops m) (length v)) (rows_of m b.columns)
-        late = subst (λ i. All (Late (ops m) i) (rows_of m b.columns)) (sym e) columns_late
+        late : AllByRecursion (Late (ops m) (length v)) (rows_of m b.columns)
+        late = subst (λ i. AllByRecursion (Late (ops m) i) (rows_of m b.columns)) (sym e) columns_late

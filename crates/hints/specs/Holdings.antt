@@ -6,7 +6,7 @@
 --   BlockHolds m n b g     so it is of both sorts of hints of a block of n symbols
 --   Holds m ns k h gs       so it is of every block of a code of these lengths and dimension k; and the hints are counted, and within n - k
 use Rattle.std.specs.Prelude.{◌≡◌, ℕ, ◌+◌, ◌-◌, ◌<◌, ◌≤◌, List, [], ◌++◌, map, length, replicate, slice_index, slice_index_or}
-use Rattle.fields.specs.Lists.{All}
+use Rattle.std.specs.List.{AllByRecursion}
 use Rattle.fields.specs.Meaning.{Meaning}
 use Rattle.fields.specs.Elements.{Elem, ops}
 use Rattle.ranks.specs.Ranks.{total}
@@ -22,13 +22,13 @@ padded m h = h ++ replicate (8 - length h) (ops m).zero
 pub record FormHolds (m : Meaning) (f : Form) (hs : List (List (Elem m))) : Type 0 where
   pub form : InForm m f
   pub size : length (rows_of m f) ≡ length hs
-  pub from : All (AmongRows (ops m) 8 hs) (rows_of m f)
-  pub back : All (AmongRows (ops m) 8 (rows_of m f)) hs
+  pub from : AllByRecursion (AmongRows (ops m) 8 hs) (rows_of m f)
+  pub back : AllByRecursion (AmongRows (ops m) 8 (rows_of m f)) hs
 
 pub record BlockHolds (m : Meaning) (n : ℕ) (b : BlockHints) (g : Given (Elem m)) : Type 0 where
   pub rows : FormHolds m b.rows (map (eight m) g.rows)
   pub columns : FormHolds m b.columns (map (padded m) g.columns)
-  pub fit : All (Row (ops m) n) g.columns
+  pub fit : AllByRecursion (Row (ops m) n) g.columns
 
 -- What stands at no place of a list of blocks, and no hints.
 abbrev pub no_block : BlockHints

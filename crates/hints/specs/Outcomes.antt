@@ -6,7 +6,7 @@
 --   Divided ns d               at most twelve blocks of at most eight symbols make up d, at most 24 symbols
 --   LeastAnswer m ns gs d p   the parts are codes, as many as d has, and a splitting of d with a full part of least weight
 use Rattle.std.specs.Prelude.{◌≡◌, ℕ, ◌≤◌, List, [], ◌∷◌, ◌++◌, length, take, drop}
-use Rattle.fields.specs.Lists.{All}
+use Rattle.std.specs.List.{AllByRecursion}
 use Rattle.fields.specs.Meaning.{Meaning}
 use Rattle.fields.specs.Elements.{Elem, elems, codes, ops}
 use Rattle.skew.specs.Polynomials.{Codes}
@@ -31,7 +31,7 @@ pub record BlockSplit (m : Meaning) (e : List ℕ) (g : Given (Elem m)) (old new
   pub least : LeastParts (ops m) g (elems m e) parts
 
 pub record Divided (ns d : List ℕ) : Type 0 where
-  pub short : All (λ n. n ≤ 8) ns
+  pub short : AllByRecursion (λ n. n ≤ 8) ns
   pub few : length ns ≤ 12
   pub sum : total ns ≡ length d
   pub room : length d ≤ 24

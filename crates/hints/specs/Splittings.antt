@@ -12,7 +12,7 @@
 --   Alike o n g h            the row hints of g and h span the same elements, and their column hints the same rows
 --   Everywhere R ns gs hs    R holds of every block with its length
 use Rattle.std.specs.Prelude.{◌≡◌, ℕ, ◌+◌, List, [], ◌∷◌, map, length}
-use Rattle.fields.specs.Lists.{All}
+use Rattle.std.specs.List.{AllByRecursion}
 use Rattle.fields.specs.Field.{Ops, Zero, Fixed, plus}
 use Rattle.skew.specs.Roots.{Independent}
 use Rattle.ranks.specs.Ranks.{Spanned}
@@ -42,7 +42,7 @@ pub record Splits {F : Type 0} (o : Ops F) (g : Given F) (e : List F) (p : Parts
   pub sum : e ≡ plus o p.full (plus o p.row p.column)
   pub full_size : length p.full ≡ length e
   pub row_size : length p.row ≡ length e
-  pub rows : All (Spanned o g.rows) p.row
+  pub rows : AllByRecursion (Spanned o g.rows) p.row
   pub columns : (xs : List F) × (length xs ≡ length g.columns) × (p.column ≡ mix o (length e) g.columns xs)
 
 module _ {F : Type 0} (o : Ops F) where
@@ -55,18 +55,18 @@ module _ {F : Type 0} (o : Ops F) where
   Splitting (g ∷ gs) (e ∷ es) (p ∷ ps) = Splits o g e p × Splitting gs es ps
 
 abbrev pub FreeRows : {F : Type 0} → Ops F → ℕ → List (List F) → Type 0
-FreeRows o n hs = (cs : List _) → length cs ≡ length hs → All (Fixed o) cs → All (Zero o) (mix o n hs cs) → All (Zero o) cs
+FreeRows o n hs = (cs : List _) → length cs ≡ length hs → AllByRecursion (Fixed o) cs → AllByRecursion (Zero o) (mix o n hs cs) → AllByRecursion (Zero o) cs
 
 pub record IndependentHints {F : Type 0} (o : Ops F) (n : ℕ) (g : Given F) : Type 0 where
   pub rows : Independent o g.rows
-  pub fit : All (Row o n) g.columns
+  pub fit : AllByRecursion (Row o n) g.columns
   pub columns : FreeRows o n g.columns
 
 pub record Alike {F : Type 0} (o : Ops F) (n : ℕ) (g h : Given F) : Type 0 where
-  pub rows : All (Spanned o g.rows) h.rows
-  pub rows_back : All (Spanned o h.rows) g.rows
-  pub columns : All (AmongRows o n g.columns) h.columns
-  pub columns_back : All (AmongRows o n h.columns) g.columns
+  pub rows : AllByRecursion (Spanned o g.rows) h.rows
+  pub rows_back : AllByRecursion (Spanned o h.rows) g.rows
+  pub columns : AllByRecursion (AmongRows o n g.columns) h.columns
+  pub columns_back : AllByRecursion (AmongRows o n h.columns) g.columns
 
 abbrev pub Everywhere : {A B : Type 0} → (ℕ → A → B → Type 0) → List ℕ → List A → List B → Type 0
 Everywhere R [] [] [] = Unit {0}

@@ -7,7 +7,7 @@
 --   g, swept, new         the new row, with one at the place p; the other rows with zero there; all of them
 use Rattle.std.proofs.Common.{◌≡◌, ℕ, suc, ◌+◌ as ◌+ℕ◌, ◌≤◌, Bool, true, false, ◌≢◌, List, [], ◌∷◌, map, length, get_or, drop, set, sym, refl, ap, ◌∙◌, subst, arith, length-set}
 use Rattle.std.proofs.lemmas.List.{length-map}
-use Rattle.fields.specs.Lists.{All}
+use Rattle.std.specs.List.{AllByRecursion}
 use Rattle.fields.specs.Field.{Ops, Laws, Zero, Fixed, plus, scale}
 use Rattle.fields.specs.Basics
 use Rattle.fields.specs.Basics.{ring}
@@ -48,13 +48,13 @@ length_put (suc q) x [] = refl
 length_put (suc q) x (y ∷ xs) = ap suc (length_put q x xs)
 
 -- What holds of the list and of what is put in.
-all_put : {A : Type 0} (P : A → Type 0) (q : ℕ) (x : A) (xs : List A) → P x → All P xs → All P (put q x xs)
+all_put : {A : Type 0} (P : A → Type 0) (q : ℕ) (x : A) (xs : List A) → P x → AllByRecursion P xs → AllByRecursion P (put q x xs)
 all_put P ℕ.zero x xs h k = (h, k)
 all_put P (suc q) x [] h k = (h, tt)
 all_put P (suc q) x (y ∷ xs) h k = (k.0, all_put P q x xs h k.1)
 
 -- And back.
-all_unput : {A : Type 0} (P : A → Type 0) (q : ℕ) (x : A) (xs : List A) → All P (put q x xs) → P x × All P xs
+all_unput : {A : Type 0} (P : A → Type 0) (q : ℕ) (x : A) (xs : List A) → AllByRecursion P (put q x xs) → P x × AllByRecursion P xs
 all_unput P ℕ.zero x xs h = (h.0, h.1)
 all_unput P (suc q) x [] h = (h.0, tt)
 all_unput P (suc q) x (y ∷ xs) h = let r = all_unput P q x xs h.1 in (r.0, (h.0, r.1))
@@ -170,19 +170,19 @@ module _ {F : Type 0} {o : Ops F} (l : Laws o) where
   length_new q ks g rows e = length_put q g (sweep ks g rows) ∙ ap suc (length_sweep ks g rows e)
 
   -- What a marked list has at its head and after it.
-  pick_head : (marks : List Bool) (g : List F) → All (Zero o) (pick (true ∷ marks) g) → (coef o g 0 ≡ zero) × All (Zero o) (pick marks (drop 1 g))
+  pick_head : (marks : List Bool) (g : List F) → AllByRecursion (Zero o) (pick (true ∷ marks) g) → (coef o g 0 ≡ zero) × AllByRecursion (Zero o) (pick marks (drop 1 g))
   pick_head [] [] h = (refl, tt)
   pick_head (m ∷ marks) [] h = (refl, tt)
   pick_head marks (x ∷ g) h = (h.0, h.1)
 
   -- What a list has after a place that is not marked.
-  pick_tail : (marks : List Bool) (g : List F) → All (Zero o) (pick (false ∷ marks) g) → All (Zero o) (pick marks (drop 1 g))
+  pick_tail : (marks : List Bool) (g : List F) → AllByRecursion (Zero o) (pick (false ∷ marks) g) → AllByRecursion (Zero o) (pick marks (drop 1 g))
   pick_tail [] [] h = tt
   pick_tail (m ∷ marks) [] h = tt
   pick_tail marks (x ∷ g) h = h
 
   -- The pivots after the new one.
-  pivots_after : (q j : ℕ) (marks : List Bool) (ks g : List F) (rows : List (List F)) → q ≤ j → length ks ≡ length rows → All (Zero o) (pick marks g) → Pivots o j marks rows
+  pivots_after : (q j : ℕ) (marks : List Bool) (ks g : List F) (rows : List (List F)) → q ≤ j → length ks ≡ length rows → AllByRecursion (Zero o) (pick marks g) → Pivots o j marks rows
       → Pivots o (suc j) marks (put q g (sweep ks g rows))
   pivots_after q j [] ks g rows e k z h = tt
   pivots_after q j (true ∷ marks) ks g rows e k z h =
@@ -206,7 +206,7 @@ module _ {F : Type 0} {o : Ops F} (l : Laws o) where
 
   -- All pivots.
   pivots_new : (p j q : ℕ) (marks : List Bool) (ks g : List F) (rows : List (List F)) → q ≡ j +ℕ before p marks → j +ℕ count marks ≡ length rows → ks ≡ map (λ r. coef o r p) rows
-      → All (Zero o) (pick marks g) → coef o g p ≡ one → Pivots o j marks rows → Pivots o j (set marks p true) (put q g (sweep ks g rows))
+      → AllByRecursion (Zero o) (pick marks g) → coef o g p ≡ one → Pivots o j marks rows → Pivots o j (set marks p true) (put q g (sweep ks g rows))
   pivots_new p j q [] ks g rows e c k z u h = tt
   pivots_new ℕ.zero j q (true ∷ marks) ks g rows e c k z u h = absurd (Basics.one_zero l (sym u ∙ (pick_head marks g z).0))
   pivots_new ℕ.zero j q (false ∷ marks) ks g rows e c k z u h =
@@ -229,7 +229,7 @@ module _ {F : Type 0} {o : Ops F} (l : Laws o) where
       (pivots_new p j q marks ks (drop 1 g) (tails o rows) (omega arith) (omega (arith, length-map rows (drop 1))) (k ∙ entries_tail p rows) (pick_tail marks g z) (sym (coef_tail g p) ∙ u) h)
 
   -- One more place is marked.
-  count_mark : (p : ℕ) (marks : List Bool) (g : List F) → length marks ≡ length g → All (Zero o) (pick marks g) → coef o g p ≢ zero → count (set marks p true) ≡ suc (count marks)
+  count_mark : (p : ℕ) (marks : List Bool) (g : List F) → length marks ≡ length g → AllByRecursion (Zero o) (pick marks g) → coef o g p ≢ zero → count (set marks p true) ≡ suc (count marks)
   count_mark p [] [] e z u = absurd (u refl)
   count_mark p [] (x ∷ g) e z u = absurd (omega arith)
   count_mark p (m ∷ marks) [] e z u = absurd (omega arith)
@@ -239,12 +239,12 @@ module _ {F : Type 0} {o : Ops F} (l : Laws o) where
   count_mark (suc p) (false ∷ marks) (x ∷ g) e z u = count_mark p marks g (omega arith) z u
 
   -- Rows are fixed.
-  pub fixed_list : (rows : List (List F)) (m : ℕ) → All (Row o m) rows → All (All (Fixed o)) rows
+  pub fixed_list : (rows : List (List F)) (m : ℕ) → AllByRecursion (Row o m) rows → AllByRecursion (AllByRecursion (Fixed o)) rows
   fixed_list [] m h = tt
   fixed_list (r ∷ rows) m h = (h.0.1, fixed_list rows m h.1)
 
   -- Opposites of fixed elements.
-  pub fixed_negs : (cs : List F) → All (Fixed o) cs → All (Fixed o) (map neg cs)
+  pub fixed_negs : (cs : List F) → AllByRecursion (Fixed o) cs → AllByRecursion (Fixed o) (map neg cs)
   fixed_negs [] h = tt
   fixed_negs (c ∷ cs) h = (Basics.fixed_neg l c h.0, fixed_negs cs h.1)
 
@@ -275,11 +275,11 @@ module _ {F : Type 0} {o : Ops F} (l : Laws o) where
     picked = Mixing.length_pick marks h (row.0 ∙ sym formed.size) ∙ formed.full
 
     -- They are fixed.
-    fixed_pick : All (Fixed o) (pick marks h)
+    fixed_pick : AllByRecursion (Fixed o) (pick marks h)
     fixed_pick = Spans.all_pick l (Fixed o) marks h row.1
 
     -- So are the rows.
-    fixed_rows : All (All (Fixed o)) rows
+    fixed_rows : AllByRecursion (AllByRecursion (Fixed o)) rows
     fixed_rows = fixed_list rows m formed.rows
 
     -- What is taken off is a sum of the rows.
@@ -291,7 +291,7 @@ module _ {F : Type 0} {o : Ops F} (l : Laws o) where
     length_left = length_clear marks rows h ∙ row.0
 
     -- It is fixed.
-    fixed_left : All (Fixed o) left
+    fixed_left : AllByRecursion (Fixed o) left
     fixed_left =
         Rows.fixed_plus l h (map neg taken) row.1
         (fixed_negs taken (Mixing.fixed_mix l (length h) rows (pick marks h) fixed_rows fixed_pick))
@@ -301,9 +301,9 @@ module _ {F : Type 0} {o : Ops F} (l : Laws o) where
     whole = back_on h taken (sym (Mixing.length_mix l (length h) rows (pick marks h)))
 
     -- It is zero at the pivots.
-    left_zero : All (Zero o) (pick marks left)
+    left_zero : AllByRecursion (Zero o) (pick marks left)
     left_zero =
-        subst (All (Zero o)) (sym (Mixing.pick_plus l marks h (map neg taken) (sym (length-map taken neg ∙ Mixing.length_mix l (length h) rows (pick marks h)))
+        subst (AllByRecursion (Zero o)) (sym (Mixing.pick_plus l marks h (map neg taken) (sym (length-map taken neg ∙ Mixing.length_mix l (length h) rows (pick marks h)))
         ∙ ap (plus o (pick marks h)) (Mixing.pick_map neg marks taken ∙ ap (map neg) same))) (Mixing.all_away l (pick marks h))
       where
         same : pick marks (mix o (length h) rows (pick marks h)) ≡ pick marks h
@@ -312,12 +312,12 @@ module _ {F : Type 0} {o : Ops F} (l : Laws o) where
             ∙ Mixing.pick_mix l 0 marks rows (pick marks h) formed.pivots picked (omega (arith, picked, formed.full))
 
     -- A row that is cleared to zero is a sum of the rows.
-    pub none_spanned : All (Zero o) left → AmongRows o m rows h
+    pub none_spanned : AllByRecursion (Zero o) left → AmongRows o m rows h
     none_spanned z = subst (AmongRows o m rows) (sym (Mixing.zero_plus l left taken (length_clear marks rows h ∙ sym (Mixing.length_mix l (length h) rows (pick marks h))) z) ∙ whole) taken_spanned
 
     -- A row that is a sum of the rows is cleared to zero.
-    all_taken : AmongRows o m rows h → All (Zero o) left
-    all_taken s = subst (λ w. All (Zero o) (plus o h (map neg w))) (sym same) (Mixing.all_away l h)
+    all_taken : AmongRows o m rows h → AllByRecursion (Zero o) left
+    all_taken s = subst (λ w. AllByRecursion (Zero o) (plus o h (map neg w))) (sym same) (Mixing.all_away l h)
       where
         cs_are : pick marks h ≡ s.0
         cs_are =
@@ -339,7 +339,7 @@ module _ {F : Type 0} {o : Ops F} (l : Laws o) where
       fixed_c = Mixing.fixed_coef l left p fixed_left
 
       -- So is the new row.
-      fixed_g : All (Fixed o) g
+      fixed_g : AllByRecursion (Fixed o) g
       fixed_g = Rows.fixed_scaled l (inv c) left (Basics.fixed_inv l c n fixed_c) fixed_left
 
       -- It has as many places as h.
@@ -351,10 +351,10 @@ module _ {F : Type 0} {o : Ops F} (l : Laws o) where
       g_one = Multiplication.coef_scale l (inv c) left p ∙ Basics.inv_mul l c n
 
       -- It has zero at the pivots of the others.
-      g_zero : All (Zero o) (pick marks g)
-      g_zero = subst (All (Zero o)) (sym (Mixing.pick_map (o.mul (inv c)) marks left)) (scaled (pick marks left) left_zero)
+      g_zero : AllByRecursion (Zero o) (pick marks g)
+      g_zero = subst (AllByRecursion (Zero o)) (sym (Mixing.pick_map (o.mul (inv c)) marks left)) (scaled (pick marks left) left_zero)
         where
-          scaled : (v : List F) → All (Zero o) v → All (Zero o) (map (o.mul (inv c)) v)
+          scaled : (v : List F) → AllByRecursion (Zero o) v → AllByRecursion (Zero o) (map (o.mul (inv c)) v)
           scaled [] k = tt
           scaled (x ∷ v) k = (ap (λ w. inv c * w) k.0 ∙ Basics.mul_zero l (inv c), scaled v k.1)
 
@@ -365,7 +365,7 @@ module _ {F : Type 0} {o : Ops F} (l : Laws o) where
       new = put (before p marks) g swept
 
       -- The rows that were swept are rows.
-      swept_rows : (rs : List (List F)) → All (Row o m) rs → All (Row o m) (map (λ r. plus o r (scale o (neg (coef o r p)) g)) rs)
+      swept_rows : (rs : List (List F)) → AllByRecursion (Row o m) rs → AllByRecursion (Row o m) (map (λ r. plus o r (scale o (neg (coef o r p)) g)) rs)
       swept_rows [] k = tt
       swept_rows (r ∷ rs) k = (
         (
@@ -376,7 +376,7 @@ module _ {F : Type 0} {o : Ops F} (l : Laws o) where
       )
 
       -- So are all new ones.
-      new_rows : All (Row o m) new
+      new_rows : AllByRecursion (Row o m) new
       new_rows = all_put (Row o m) (before p marks) g swept (length_g, fixed_g) (swept_rows rows formed.rows)
 
       -- They have their pivots at the marked places and at p.
@@ -395,7 +395,7 @@ module _ {F : Type 0} {o : Ops F} (l : Laws o) where
       }
 
       -- The new rows are spanned by h and the old ones.
-      old_own : All (AmongRows o m (h ∷ rows)) (h ∷ rows)
+      old_own : AllByRecursion (AmongRows o m (h ∷ rows)) (h ∷ rows)
       old_own = Mixing.among_own l m (h ∷ rows) (row, formed.rows)
 
       -- Opposites as multiples.
@@ -414,7 +414,7 @@ module _ {F : Type 0} {o : Ops F} (l : Laws o) where
           (subst (AmongRows o m (h ∷ rows)) (sym (neg_is_scale taken)) (Mixing.among_scale l m (h ∷ rows) (neg one) taken (Basics.fixed_neg l one (Basics.fixed_one l)) (Mixing.among_more l m h rows taken row.0 taken_spanned))))
 
       -- The rows that were swept.
-      swept_spanned : (rs : List (List F)) → All (Row o m) rs → All (AmongRows o m (h ∷ rows)) rs → All (AmongRows o m (h ∷ rows)) (map (λ r. plus o r (scale o (neg (coef o r p)) g)) rs)
+      swept_spanned : (rs : List (List F)) → AllByRecursion (Row o m) rs → AllByRecursion (AmongRows o m (h ∷ rows)) rs → AllByRecursion (AmongRows o m (h ∷ rows)) (map (λ r. plus o r (scale o (neg (coef o r p)) g)) rs)
       swept_spanned [] k s = tt
       swept_spanned (r ∷ rs) k s = (
         Mixing.among_add l m (h ∷ rows) r (scale o (neg (coef o r p)) g) s.0 (Mixing.among_scale l m (h ∷ rows) (neg (coef o r p)) g (Basics.fixed_neg l _ (Mixing.fixed_coef l r p k.0.1)) g_spanned),
@@ -422,11 +422,11 @@ module _ {F : Type 0} {o : Ops F} (l : Laws o) where
       )
 
       -- All of them.
-      new_spanned : All (AmongRows o m (h ∷ rows)) new
+      new_spanned : AllByRecursion (AmongRows o m (h ∷ rows)) new
       new_spanned = all_put (AmongRows o m (h ∷ rows)) (before p marks) g swept g_spanned (swept_spanned rows formed.rows old_own.1)
 
       -- And they by the new ones.
-      new_own : AmongRows o m new g × All (AmongRows o m new) swept
+      new_own : AmongRows o m new g × AllByRecursion (AmongRows o m new) swept
       new_own = all_unput (AmongRows o m new) (before p marks) g swept (Mixing.among_own l m new new_rows)
 
       -- What was swept off a row put on again.
@@ -443,7 +443,7 @@ module _ {F : Type 0} {o : Ops F} (l : Laws o) where
           go (x ∷ u) (y ∷ v) e' = cons_path (back x y) (go u v (omega arith))
 
       -- Each old row is a new one and a multiple of the new row.
-      olds : (rs : List (List F)) → All (Row o m) rs → All (AmongRows o m new) (map (λ r. plus o r (scale o (neg (coef o r p)) g)) rs) → All (AmongRows o m new) rs
+      olds : (rs : List (List F)) → AllByRecursion (Row o m) rs → AllByRecursion (AmongRows o m new) (map (λ r. plus o r (scale o (neg (coef o r p)) g)) rs) → AllByRecursion (AmongRows o m new) rs
       olds [] k s = tt
       olds (r ∷ rs) k s = (
         subst (AmongRows o m new) (again r (coef o r p) (k.0.0 ∙ sym length_g)) (Mixing.among_add l m new (plus o r (scale o (neg (coef o r p)) g)) (scale o (coef o r p) g) s.0 (Mixing.among_scale l m new (coef o r p) g (Mixing.fixed_coef l r p k.0.1) new_own.0)),
@@ -451,7 +451,7 @@ module _ {F : Type 0} {o : Ops F} (l : Laws o) where
       )
 
       -- All of them.
-      rows_spanned : All (AmongRows o m new) rows
+      rows_spanned : AllByRecursion (AmongRows o m new) rows
       rows_spanned = olds rows formed.rows new_own.1
 
       -- And h.
@@ -465,14 +465,14 @@ module _ {F : Type 0} {o : Ops F} (l : Laws o) where
           unscaled (x ∷ v) = cons_path (Basics.mul_inv_cancel l c x n) (unscaled v)
 
       -- The new rows are reduced, h was not spanned, and the new rows span what the old ones span with h.
-      pub put_in : Reduced o m (set marks p true) new × (¬ AmongRows o m rows h) × All (AmongRows o m (h ∷ rows)) new × All (AmongRows o m new) (h ∷ rows)
+      pub put_in : Reduced o m (set marks p true) new × (¬ AmongRows o m rows h) × AllByRecursion (AmongRows o m (h ∷ rows)) new × AllByRecursion (AmongRows o m new) (h ∷ rows)
       put_in = (new_formed, (λ s. n (Multiplication.coef_of l left (all_taken s) p)), new_spanned, (h_spanned, rows_spanned))
 
       -- The place p was not marked.
       pub unmarked : get_or marks p false ≡ false
       unmarked = free p marks left (formed.size ∙ sym length_left) left_zero n
         where
-          free : (q : ℕ) (ms : List Bool) (v : List F) → length ms ≡ length v → All (Zero o) (pick ms v) → coef o v q ≢ zero → get_or ms q false ≡ false
+          free : (q : ℕ) (ms : List Bool) (v : List F) → length ms ≡ length v → AllByRecursion (Zero o) (pick ms v) → coef o v q ≢ zero → get_or ms q false ≡ false
           free q [] v e z k = refl
           free q (true ∷ ms) [] e z k = absurd (omega arith)
           free q (false ∷ ms) [] e z k = absurd (omega arith)

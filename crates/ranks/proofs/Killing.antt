@@ -3,7 +3,7 @@
 --   Kills p t       p vanishes at the point t
 --   paired a es     the elements of a list, each with the parameter a
 use Rattle.std.proofs.Common.{◌≡◌, suc, ◌≢◌, List, [], ◌∷◌, map, length, sym, refl, ap, ◌∙◌, arith}
-use Rattle.fields.specs.Lists.{All}
+use Rattle.std.specs.List.{AllByRecursion}
 use Rattle.fields.specs.Field.{Ops, Laws, comb}
 use Rattle.fields.specs.Basics
 use Rattle.fields.specs.Basics.{ring}
@@ -39,13 +39,13 @@ module _ {F : Type 0} {o : Ops F} (l : Laws o) where
       back n = Basics.mul_assoc l (step o a w) (inv w) w ∙ ap (λ u. step o a w * u) (Basics.inv_mul l w n) ∙ Basics.mul_one l (step o a w)
 
   -- What p kills, a multiple of p kills.
-  times_keeps : (f p : List F) (pairs : List (F × F)) → All (Kills p) pairs → All (Kills (times o f p)) pairs
+  times_keeps : (f p : List F) (pairs : List (F × F)) → AllByRecursion (Kills p) pairs → AllByRecursion (Kills (times o f p)) pairs
   times_keeps f p [] h = tt
   times_keeps f p (t ∷ pairs) h =
       (Multiplication.product_applies l t.0 f p t.1 ∙ ap (eval o t.0 f) h.0 ∙ Evaluation.eval_zero l t.0 f, times_keeps f p pairs h.1)
 
   -- For each list of points there is a monic polynomial of their number that vanishes at each.
-  pub killer : (pairs : List (F × F)) → (p : List F) × (length p ≡ suc (length pairs)) × (coef o p (length pairs) ≡ one) × All (Kills p) pairs
+  pub killer : (pairs : List (F × F)) → (p : List F) × (length p ≡ suc (length pairs)) × (coef o p (length pairs) ≡ one) × AllByRecursion (Kills p) pairs
   killer [] = (one ∷ [], refl, refl, tt)
   killer (t ∷ pairs) =
       let s = killer pairs in
@@ -58,12 +58,12 @@ module _ {F : Type 0} {o : Ops F} (l : Laws o) where
       )
 
   -- A combination of the values of p at points that it kills.
-  comb_killed : (p : List F) (a : F) (cs es : List F) → All (Kills p) (paired a es) → comb o cs (map (eval o a p) es) ≡ zero
+  comb_killed : (p : List F) (a : F) (cs es : List F) → AllByRecursion (Kills p) (paired a es) → comb o cs (map (eval o a p) es) ≡ zero
   comb_killed p a [] es h = refl
   comb_killed p a (c ∷ cs) [] h = refl
   comb_killed p a (c ∷ cs) (e ∷ es) h = ap (λ w. c * w + comb o cs (map (eval o a p) es)) h.0 ∙ ap (λ w. c * zero + w) (comb_killed p a cs es h.1) ∙ simp (ring, l)
 
   -- A polynomial that vanishes at each of es vanishes at what they span.
-  pub span_killed : (p : List F) (a : F) (es : List F) (v : F) → All (Kills p) (paired a es) → Spanned o es v → eval o a p v ≡ zero
+  pub span_killed : (p : List F) (a : F) (es : List F) (v : F) → AllByRecursion (Kills p) (paired a es) → Spanned o es v → eval o a p v ≡ zero
   span_killed p a es v h s =
       ap (eval o a p) s.3 ∙ sym (Evaluation.comb_map l (eval o a p) (Evaluation.eval_linear l a p) s.0 es s.2) ∙ comb_killed p a s.0 es h

@@ -1,7 +1,7 @@
 -- Sums of rows times elements, what is picked of them at marked places, and what rows span.
 use Rattle.std.proofs.Common.{◌≡◌, ℕ, suc, ◌+◌ as ◌+ℕ◌, ◌≤◌, Bool, true, false, List, [], ◌∷◌, map, length, drop, sym, refl, ap, ◌∙◌, subst, arith, drop_of_length-le}
 use Rattle.std.proofs.lemmas.List.{length-map}
-use Rattle.fields.specs.Lists.{All}
+use Rattle.std.specs.List.{AllByRecursion}
 use Rattle.fields.specs.Field.{Ops, Laws, Zero, Fixed, plus, scale, comb}
 use Rattle.fields.specs.Basics
 use Rattle.fields.specs.Basics.{ring}
@@ -59,34 +59,34 @@ module _ {F : Type 0} {o : Ops F} (l : Laws o) where
   comb_nothing (c ∷ cs) (h ∷ hs) = ap (λ w. c * zero + w) (comb_nothing cs hs) ∙ simp (ring, l)
 
   -- A combination of fixed elements with fixed coefficients.
-  fixed_comb : (cs ds : List F) → All (Fixed o) cs → All (Fixed o) ds → Fixed o (comb o cs ds)
+  fixed_comb : (cs ds : List F) → AllByRecursion (Fixed o) cs → AllByRecursion (Fixed o) ds → Fixed o (comb o cs ds)
   fixed_comb [] ds h k = Basics.fixed_zero l
   fixed_comb (c ∷ cs) [] h k = Basics.fixed_zero l
   fixed_comb (c ∷ cs) (d ∷ ds) h k = Basics.fixed_add l _ _ (Basics.fixed_mul l c d h.0 k.0) (fixed_comb cs ds h.1 k.1)
 
   -- An entry of a fixed row is fixed.
-  pub fixed_coef : (h : List F) (i : ℕ) → All (Fixed o) h → Fixed o (coef o h i)
+  pub fixed_coef : (h : List F) (i : ℕ) → AllByRecursion (Fixed o) h → Fixed o (coef o h i)
   fixed_coef [] i k = Basics.fixed_zero l
   fixed_coef (x ∷ h) ℕ.zero k = k.0
   fixed_coef (x ∷ h) (suc i) k = fixed_coef h i k.1
 
   -- The first entries of fixed rows.
-  pub fixed_heads : (hs : List (List F)) → All (All (Fixed o)) hs → All (Fixed o) (heads o hs)
+  pub fixed_heads : (hs : List (List F)) → AllByRecursion (AllByRecursion (Fixed o)) hs → AllByRecursion (Fixed o) (heads o hs)
   fixed_heads [] k = tt
   fixed_heads (h ∷ hs) k = (fixed_coef h 0 k.0, fixed_heads hs k.1)
 
   -- The rest of a fixed row.
-  fixed_tail : (h : List F) → All (Fixed o) h → All (Fixed o) (drop 1 h)
+  fixed_tail : (h : List F) → AllByRecursion (Fixed o) h → AllByRecursion (Fixed o) (drop 1 h)
   fixed_tail [] k = tt
   fixed_tail (x ∷ h) k = k.1
 
   -- The rests of fixed rows.
-  pub fixed_tails : (hs : List (List F)) → All (All (Fixed o)) hs → All (All (Fixed o)) (tails o hs)
+  pub fixed_tails : (hs : List (List F)) → AllByRecursion (AllByRecursion (Fixed o)) hs → AllByRecursion (AllByRecursion (Fixed o)) (tails o hs)
   fixed_tails [] k = tt
   fixed_tails (h ∷ hs) k = (fixed_tail h k.0, fixed_tails hs k.1)
 
   -- A sum of fixed rows times fixed elements.
-  pub fixed_mix : (n : ℕ) (hs : List (List F)) (ds : List F) → All (All (Fixed o)) hs → All (Fixed o) ds → All (Fixed o) (mix o n hs ds)
+  pub fixed_mix : (n : ℕ) (hs : List (List F)) (ds : List F) → AllByRecursion (AllByRecursion (Fixed o)) hs → AllByRecursion (Fixed o) ds → AllByRecursion (Fixed o) (mix o n hs ds)
   fixed_mix ℕ.zero hs ds h k = tt
   fixed_mix (suc n) hs ds h k = (fixed_comb (heads o hs) ds (fixed_heads hs h) k, fixed_mix n (tails o hs) ds (fixed_tails hs h) k)
 
@@ -118,18 +118,18 @@ module _ {F : Type 0} {o : Ops F} (l : Laws o) where
   mix_cons (suc n) (c ∷ h) hs x xs e = cons_path (ap (λ w. w + comb o (heads o hs) xs) (Basics.mul_comm l c x)) (mix_cons n h (tails o hs) x xs (omega arith))
 
   -- Of no rows it is zero.
-  pub mix_none : (n : ℕ) (xs : List F) → All (Zero o) (mix o n [] xs)
+  pub mix_none : (n : ℕ) (xs : List F) → AllByRecursion (Zero o) (mix o n [] xs)
   mix_none ℕ.zero xs = tt
   mix_none (suc n) xs = (refl, mix_none n xs)
 
   -- Zeros are fixed.
-  fixed_none : {A : Type 0} (hs : List A) → All (Fixed o) (map (λ _. zero) hs)
+  fixed_none : {A : Type 0} (hs : List A) → AllByRecursion (Fixed o) (map (λ _. zero) hs)
   fixed_none [] = tt
   fixed_none (h ∷ hs) = (Basics.fixed_zero l, fixed_none hs)
 
   -- A sum of rows that other rows span is a sum of those, and with fixed coefficients where it had such.
-  pub mix_again : (n : ℕ) (hs ks : List (List F)) (xs : List F) → length xs ≡ length hs → All (Row o n) hs → All (AmongRows o n ks) hs
-      → (ys : List F) × (length ys ≡ length ks) × (All (Fixed o) xs → All (Fixed o) ys) × (mix o n hs xs ≡ mix o n ks ys)
+  pub mix_again : (n : ℕ) (hs ks : List (List F)) (xs : List F) → length xs ≡ length hs → AllByRecursion (Row o n) hs → AllByRecursion (AmongRows o n ks) hs
+      → (ys : List F) × (length ys ≡ length ks) × (AllByRecursion (Fixed o) xs → AllByRecursion (Fixed o) ys) × (mix o n hs xs ≡ mix o n ks ys)
   mix_again n [] ks xs e fit s = (map (λ _. zero) ks, length-map ks (λ _. zero), (λ _. fixed_none ks), sym (mix_nothing n ks ks xs))
   mix_again n (h ∷ hs) ks [] e fit s = absurd (omega arith)
   mix_again n (h ∷ hs) ks (x ∷ xs) e fit s =
@@ -175,12 +175,12 @@ module _ {F : Type 0} {o : Ops F} (l : Laws o) where
   pick_mix j (false ∷ marks) hs xs h e c = pick_mix j marks (tails o hs) xs h (e ∙ sym (length-map hs (drop 1))) c
 
   -- A row less itself.
-  pub all_away : (v : List F) → All (Zero o) (plus o v (map neg v))
+  pub all_away : (v : List F) → AllByRecursion (Zero o) (plus o v (map neg v))
   all_away [] = tt
   all_away (x ∷ v) = (Basics.add_neg l x, all_away v)
 
   -- A sum with a row of zeros.
-  pub zero_plus : (u v : List F) → length u ≡ length v → All (Zero o) u → plus o u v ≡ v
+  pub zero_plus : (u v : List F) → length u ≡ length v → AllByRecursion (Zero o) u → plus o u v ≡ v
   zero_plus [] v e k = refl
   zero_plus (x ∷ u) [] e k = absurd (omega arith)
   zero_plus (x ∷ u) (y ∷ v) e k = cons_path (ap (λ w. w + y) k.0 ∙ Basics.zero_add l y) (zero_plus u v (omega arith) k.1)
@@ -211,7 +211,7 @@ module _ {F : Type 0} {o : Ops F} (l : Laws o) where
         nought w = simp (ring, l)
 
     -- One times a row, and zeros.
-    plus_only : (h v : List F) → length h ≡ length v → All (Zero o) v → plus o (scale o one h) v ≡ h
+    plus_only : (h v : List F) → length h ≡ length v → AllByRecursion (Zero o) v → plus o (scale o one h) v ≡ h
     plus_only [] [] e z = refl
     plus_only [] (y ∷ v) e z = absurd (omega arith)
     plus_only (x ∷ h) [] e z = absurd (omega arith)
@@ -227,7 +227,7 @@ module _ {F : Type 0} {o : Ops F} (l : Laws o) where
     )
 
     -- The same of each of a list.
-    pub all_among_more : (h : List F) (hs us : List (List F)) → length h ≡ n → All (AmongRows o n hs) us → All (AmongRows o n (h ∷ hs)) us
+    pub all_among_more : (h : List F) (hs us : List (List F)) → length h ≡ n → AllByRecursion (AmongRows o n hs) us → AllByRecursion (AmongRows o n (h ∷ hs)) us
     all_among_more h hs [] e s = tt
     all_among_more h hs (u ∷ us) e s = (among_more h hs u e s.0, all_among_more h hs us e s.1)
 
@@ -238,21 +238,21 @@ module _ {F : Type 0} {o : Ops F} (l : Laws o) where
       ap suc (length-map hs (λ _. zero)),
       (Basics.fixed_one l, fixed_none hs),
       sym (mix_cons n h hs one (map (λ _. zero) hs) e ∙ plus_only h (mix o n hs (map (λ _. zero) hs)) (e ∙ sym (length_mix n hs (map (λ _. zero) hs)))
-          (subst (All (Zero o)) (sym (mix_nothing n hs hs [])) (mix_none n []))),
+          (subst (AllByRecursion (Zero o)) (sym (mix_nothing n hs hs [])) (mix_none n []))),
     )
 
     -- So are all.
-    pub among_own : (hs : List (List F)) → All (Row o n) hs → All (AmongRows o n hs) hs
+    pub among_own : (hs : List (List F)) → AllByRecursion (Row o n) hs → AllByRecursion (AmongRows o n hs) hs
     among_own [] k = tt
     among_own (h ∷ hs) k = (among_first h hs k.0.0, all_among_more h hs hs k.0.0 (among_own hs k.1))
 
     -- What is spanned by rows that are spanned.
-    pub among_trans : (hs ks : List (List F)) (u : List F) → All (Row o n) ks → All (AmongRows o n hs) ks → AmongRows o n ks u → AmongRows o n hs u
+    pub among_trans : (hs ks : List (List F)) (u : List F) → AllByRecursion (Row o n) ks → AllByRecursion (AmongRows o n hs) ks → AmongRows o n ks u → AmongRows o n hs u
     among_trans hs ks u k s t =
         let r = mix_again n ks hs t.0 t.1 k s in
         (r.0, r.1, r.2 t.2, t.3 ∙ r.3)
 
     -- The same of each of a list.
-    pub all_among_trans : (hs ks us : List (List F)) → All (Row o n) ks → All (AmongRows o n hs) ks → All (AmongRows o n ks) us → All (AmongRows o n hs) us
+    pub all_among_trans : (hs ks us : List (List F)) → AllByRecursion (Row o n) ks → AllByRecursion (AmongRows o n hs) ks → AllByRecursion (AmongRows o n ks) us → AllByRecursion (AmongRows o n hs) us
     all_among_trans hs ks [] k s t = tt
     all_among_trans hs ks (u ∷ us) k s t = (among_trans hs ks u k s t.0, all_among_trans hs ks us k s t.1)

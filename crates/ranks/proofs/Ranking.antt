@@ -7,7 +7,7 @@
 use Rattle.std.proofs.Common.{◌≡◌, ℕ, suc, ◌+◌ as ◌+ℕ◌, ◌-◌, ◌<◌, ◌≤◌, Bool, true, false, List, [], ◌∷◌, ◌++◌, map, length, get_or, take, drop, replicate, sym, refl, ap, ◌∙◌, subst, arith, length-append, take-append-drop, drop-cons}
 use Rattle.std.proofs.lemmas.List.{length-map, length-replicate}
 use Rattle.std.proofs.lemmas.List.{take_more, take_all, map-append, length_push}
-use Rattle.fields.specs.Lists.{All}
+use Rattle.std.specs.List.{AllByRecursion}
 use Rattle.fields.specs.Field.{Ops, Zero, Fixed, plus, scale, comb}
 use Rattle.fields.specs.Field as field
 use Rattle.fields.specs.Meaning.{Meaning, Laws, clip, digit_row}
@@ -37,7 +37,7 @@ module _ {F : Type 0} {o : Ops F} (l : field.Laws o) where
   infixl 65 ◌+◌
   infixl 70 ◌*◌
   -- Zeros are the same where there are as many.
-  pub same_zeros : (u v : List F) → length u ≡ length v → All (Zero o) u → All (Zero o) v → u ≡ v
+  pub same_zeros : (u v : List F) → length u ≡ length v → AllByRecursion (Zero o) u → AllByRecursion (Zero o) v → u ≡ v
   same_zeros [] [] e h k = refl
   same_zeros [] (y ∷ v) e h k = absurd (omega arith)
   same_zeros (x ∷ u) [] e h k = absurd (omega arith)
@@ -45,15 +45,15 @@ module _ {F : Type 0} {o : Ops F} (l : field.Laws o) where
 
   module _ (n : ℕ) (digits : F → List F) (d : Numerals o n digits) where
     -- The digits of zero.
-    zero_digits : All (Zero o) (digits zero)
-    zero_digits = subst (All (Zero o)) (sym (ap digits (sym (Basics.zero_mul l zero)) ∙ d.mul zero zero (Basics.fixed_zero l))) (none_of (digits zero))
+    zero_digits : AllByRecursion (Zero o) (digits zero)
+    zero_digits = subst (AllByRecursion (Zero o)) (sym (ap digits (sym (Basics.zero_mul l zero)) ∙ d.mul zero zero (Basics.fixed_zero l))) (none_of (digits zero))
       where
-        none_of : (v : List F) → All (Zero o) (scale o zero v)
+        none_of : (v : List F) → AllByRecursion (Zero o) (scale o zero v)
         none_of [] = tt
         none_of (x ∷ v) = (Basics.zero_mul l x, none_of v)
 
     -- The digits of a combination.
-    pub digits_comb : (cs vs : List F) → length cs ≡ length vs → All (Fixed o) cs → digits (comb o cs vs) ≡ mix o n (map digits vs) cs
+    pub digits_comb : (cs vs : List F) → length cs ≡ length vs → AllByRecursion (Fixed o) cs → digits (comb o cs vs) ≡ mix o n (map digits vs) cs
     digits_comb [] [] e k = same_zeros (digits zero) (mix o n [] []) ((d.fixed zero).0 ∙ sym (Mixing.length_mix l n [] [])) zero_digits (Mixing.mix_none l n [])
     digits_comb [] (v ∷ vs) e k = absurd (omega arith)
     digits_comb (c ∷ cs) [] e k = absurd (omega arith)
@@ -71,12 +71,12 @@ module _ {F : Type 0} {o : Ops F} (l : field.Laws o) where
         (s.0, s.1 ∙ length-map us digits, s.2, d.apart x (comb o s.0 us) (s.3 ∙ sym (digits_comb s.0 us (s.1 ∙ length-map us digits) s.2)))
 
     -- The same of each of a list.
-    pub all_down : (us xs : List F) → All (AmongRows o n (map digits us)) (map digits xs) → All (Spanned o us) xs
+    pub all_down : (us xs : List F) → AllByRecursion (AmongRows o n (map digits us)) (map digits xs) → AllByRecursion (Spanned o us) xs
     all_down us [] h = tt
     all_down us (x ∷ xs) h = (spans_down us x h.0, all_down us xs h.1)
 
     -- Rows that digits span are the digits of elements.
-    pub lifted : (xs : List F) (rows : List (List F)) → All (AmongRows o n (map digits xs)) rows → (es : List F) × (map digits es ≡ rows) × All (Spanned o xs) es
+    pub lifted : (xs : List F) (rows : List (List F)) → AllByRecursion (AmongRows o n (map digits xs)) rows → (es : List F) × (map digits es ≡ rows) × AllByRecursion (Spanned o xs) es
     lifted xs [] h = ([], refl, tt)
     lifted xs (r ∷ rows) h =
         let w = lifted xs rows h.1 in
@@ -84,17 +84,17 @@ module _ {F : Type 0} {o : Ops F} (l : field.Laws o) where
         (comb o h.0.0 xs ∷ w.0, cons_path (digits_comb h.0.0 xs e h.0.2 ∙ sym h.0.3) w.1, ((h.0.0, e, h.0.2, refl), w.2))
 
     -- Reduced rows are independent.
-    pub rows_free : (marks : List Bool) (rows : List (List F)) → Reduced o n marks rows → (cs : List F) → length cs ≡ length rows → All (Zero o) (mix o n rows cs) → All (Zero o) cs
+    pub rows_free : (marks : List Bool) (rows : List (List F)) → Reduced o n marks rows → (cs : List F) → length cs ≡ length rows → AllByRecursion (Zero o) (mix o n rows cs) → AllByRecursion (Zero o) cs
     rows_free marks rows f cs len e =
-        subst (All (Zero o)) (ap (λ i. pick marks (mix o i rows cs)) (sym f.size) ∙ Mixing.pick_mix l 0 marks rows cs f.pivots len (omega (arith, len, f.full)))
+        subst (AllByRecursion (Zero o)) (ap (λ i. pick marks (mix o i rows cs)) (sym f.size) ∙ Mixing.pick_mix l 0 marks rows cs f.pivots len (omega (arith, len, f.full)))
         (Spans.all_pick l (Zero o) marks (mix o n rows cs) e)
 
     -- The rank of elements is the number of rows of a reduced form of their digits.
-    pub rank_as : (xs : List F) (marks : List Bool) (rows : List (List F)) → Reduced o n marks rows → All (AmongRows o n rows) (map digits xs) → All (AmongRows o n (map digits xs)) rows → IsRank o xs (length rows)
+    pub rank_as : (xs : List F) (marks : List Bool) (rows : List (List F)) → Reduced o n marks rows → AllByRecursion (AmongRows o n rows) (map digits xs) → AllByRecursion (AmongRows o n (map digits xs)) rows → IsRank o xs (length rows)
     rank_as xs marks rows f s t =
-        subst (IsRank o xs) long (Spans.rank_by l xs w.0 free (all_down w.0 xs (subst (λ rs. All (AmongRows o n rs) (map digits xs)) (sym w.1) s)) w.2)
+        subst (IsRank o xs) long (Spans.rank_by l xs w.0 free (all_down w.0 xs (subst (λ rs. AllByRecursion (AmongRows o n rs) (map digits xs)) (sym w.1) s)) w.2)
       where
-        w : (es : List F) × (map digits es ≡ rows) × All (Spanned o xs) es
+        w : (es : List F) × (map digits es ≡ rows) × AllByRecursion (Spanned o xs) es
         w = lifted xs rows t
 
         long : length w.0 ≡ length rows
@@ -103,13 +103,13 @@ module _ {F : Type 0} {o : Ops F} (l : field.Laws o) where
         free : Independent o w.0
         free cs len fix e =
             rows_free marks rows f cs (len ∙ long)
-            (subst (All (Zero o)) (ap digits (sym e) ∙ digits_comb cs w.0 len fix ∙ ap (λ rs. mix o n rs cs) w.1) zero_digits)
+            (subst (AllByRecursion (Zero o)) (ap digits (sym e) ∙ digits_comb cs w.0 len fix ∙ ap (λ rs. mix o n rs cs) w.1) zero_digits)
 
   -- Rows with zeros behind: sums.
-  pub plus_behind : (u v z : List F) → length u ≡ length v → All (Zero o) z → plus o u v ++ z ≡ plus o (u ++ z) (v ++ z)
+  pub plus_behind : (u v z : List F) → length u ≡ length v → AllByRecursion (Zero o) z → plus o u v ++ z ≡ plus o (u ++ z) (v ++ z)
   plus_behind [] [] z e k = twice z k
     where
-      twice : (y : List F) → All (Zero o) y → y ≡ plus o y y
+      twice : (y : List F) → AllByRecursion (Zero o) y → y ≡ plus o y y
       twice [] h = refl
       twice (x ∷ y) h = cons_path (sym (ap (λ w. x + w) h.0 ∙ Basics.add_zero l x)) (twice y h.1)
   plus_behind [] (y ∷ v) z e k = absurd (omega arith)
@@ -117,16 +117,16 @@ module _ {F : Type 0} {o : Ops F} (l : field.Laws o) where
   plus_behind (x ∷ u) (y ∷ v) z e k = cons_path refl (plus_behind u v z (omega arith) k)
 
   -- Multiples.
-  pub scale_behind : (c : F) (u z : List F) → All (Zero o) z → scale o c u ++ z ≡ scale o c (u ++ z)
+  pub scale_behind : (c : F) (u z : List F) → AllByRecursion (Zero o) z → scale o c u ++ z ≡ scale o c (u ++ z)
   scale_behind c [] z k = none z k
     where
-      none : (y : List F) → All (Zero o) y → y ≡ scale o c y
+      none : (y : List F) → AllByRecursion (Zero o) y → y ≡ scale o c y
       none [] h = refl
       none (x ∷ y) h = cons_path (h.0 ∙ sym (ap (λ w. c * w) h.0 ∙ Basics.mul_zero l c)) (none y h.1)
   scale_behind c (x ∷ u) z k = cons_path refl (scale_behind c u z k)
 
   -- Zeros are fixed.
-  pub fixed_zeros : (z : List F) → All (Zero o) z → All (Fixed o) z
+  pub fixed_zeros : (z : List F) → AllByRecursion (Zero o) z → AllByRecursion (Fixed o) z
   fixed_zeros [] k = tt
   fixed_zeros (x ∷ z) k = (subst (Fixed o) (sym k.0) (Basics.fixed_zero l), fixed_zeros z k.1)
 
@@ -149,8 +149,8 @@ module _ {F : Type 0} {o : Ops F} (l : field.Laws o) where
       swap a b c = Basics.add_left_comm l a b c
 
       -- The last coefficient and the others.
-      apart : (ds zs : List F) → length ds ≡ suc (length zs) → All (Fixed o) ds
-          → (c : F) × (es : List F) × (length es ≡ length zs) × Fixed o c × All (Fixed o) es × (All (Zero o) (c ∷ es) → All (Zero o) ds) × (comb o ds (zs ++ x ∷ []) ≡ c * x + comb o es zs)
+      apart : (ds zs : List F) → length ds ≡ suc (length zs) → AllByRecursion (Fixed o) ds
+          → (c : F) × (es : List F) × (length es ≡ length zs) × Fixed o c × AllByRecursion (Fixed o) es × (AllByRecursion (Zero o) (c ∷ es) → AllByRecursion (Zero o) ds) × (comb o ds (zs ++ x ∷ []) ≡ c * x + comb o es zs)
       apart [] zs k f = absurd (omega arith)
       apart (d ∷ []) [] k f = (d, [], refl, f.0, tt, (λ z. (z.0, tt)), refl)
       apart (d ∷ b ∷ ds) [] k f = absurd (omega arith)
@@ -163,7 +163,7 @@ module _ {F : Type 0} {o : Ops F} (l : field.Laws o) where
   not_free ys x zs s ind =
       Basics.one_zero l (sym (Basics.neg_neg l one) ∙ ap neg (all_right (Zero o) s.0 (neg one ∷ map (λ _. zero) zs) z).0 ∙ Basics.neg_zero l)
     where
-      nones : (ws : List F) → All (Fixed o) (map (λ _. zero) ws)
+      nones : (ws : List F) → AllByRecursion (Fixed o) (map (λ _. zero) ws)
       nones [] = tt
       nones (w ∷ ws) = (Basics.fixed_zero l, nones ws)
 
@@ -180,7 +180,7 @@ module _ {F : Type 0} {o : Ops F} (l : field.Laws o) where
       cancel : (v : F) → v + (neg one * v + zero) ≡ zero
       cancel v = simp (ring, l)
 
-      z : All (Zero o) (s.0 ++ neg one ∷ map (λ _. zero) zs)
+      z : AllByRecursion (Zero o) (s.0 ++ neg one ∷ map (λ _. zero) zs)
       z =
           ind (s.0 ++ neg one ∷ map (λ _. zero) zs)
           (length-append s.0 (neg one ∷ map (λ _. zero) zs) ∙ omega (arith, s.1, length-append ys (x ∷ zs), length-map zs (λ _. zero)))
@@ -197,11 +197,11 @@ module _ {m : Meaning} (l : Laws m) where
   behind = elems m (replicate (8 - m.width) 0)
 
   -- They are zeros.
-  behind_zero : All (Zero (ops m)) behind
+  behind_zero : AllByRecursion (Zero (ops m)) behind
   unfolding behind
   behind_zero = go (8 - m.width)
     where
-      go : (n : ℕ) → All (Zero (ops m)) (elems m (replicate n 0))
+      go : (n : ℕ) → AllByRecursion (Zero (ops m)) (elems m (replicate n 0))
       go ℕ.zero = tt
       go (suc n) = (Carrier.zero_is m, go n)
 
@@ -229,7 +229,7 @@ module _ {m : Meaning} (l : Laws m) where
       record {
         fixed = λ x. (
           ap length (eight_is x) ∙ length-append (digits_of m x) behind ∙ omega (arith, D.digits_length x, wide, rest, l.width_high),
-          subst (All (Fixed (ops m))) (sym (eight_is x)) (all_append (Fixed (ops m)) (digits_of m x) behind (D.digits_fixed x) (fixed_zeros laws behind behind_zero)),
+          subst (AllByRecursion (Fixed (ops m))) (sym (eight_is x)) (all_append (Fixed (ops m)) (digits_of m x) behind (D.digits_fixed x) (fixed_zeros laws behind behind_zero)),
         );
         add = λ x y.
             eight_is ((ops m).add x y) ∙ ap (λ w. w ++ behind) (D.digits_add x y) ∙ plus_behind laws (digits_of m x) (digits_of m y) behind (D.digits_length x ∙ sym (D.digits_length y)) behind_zero
@@ -251,11 +251,11 @@ module _ {m : Meaning} (l : Laws m) where
   -- The rows of the form span what the digits of the symbols span.
   pub record Spanning (xs : List ℕ) (f : Form) : Type 0 where
     pub form : InForm m f
-    pub gives : All (AmongRows (ops m) 8 (rows_of m f)) (all_eight xs)
-    pub given : All (AmongRows (ops m) 8 (all_eight xs)) (rows_of m f)
+    pub gives : AllByRecursion (AmongRows (ops m) 8 (rows_of m f)) (all_eight xs)
+    pub given : AllByRecursion (AmongRows (ops m) 8 (all_eight xs)) (rows_of m f)
 
   -- They are rows.
-  rows_all : (xs : List ℕ) → All (Row (ops m) 8) (all_eight xs)
+  rows_all : (xs : List ℕ) → AllByRecursion (Row (ops m) 8) (all_eight xs)
   rows_all [] = tt
   rows_all (x ∷ xs) = (numerals.fixed (elem m x), rows_all xs)
 
@@ -270,11 +270,11 @@ module _ {m : Meaning} (l : Laws m) where
     more = all_eight xs ++ eight m (elem m a) ∷ []
 
     -- Each of them is among their sums.
-    own : All (AmongRows (ops m) 8 more) more
+    own : AllByRecursion (AmongRows (ops m) 8 more) more
     own = Mixing.among_own laws 8 more (all_append (Row (ops m) 8) (all_eight xs) (eight m (elem m a) ∷ []) (rows_all xs) (numerals.fixed (elem m a), tt))
 
     -- So are those of the earlier symbols.
-    olds : All (AmongRows (ops m) 8 more) (all_eight xs)
+    olds : AllByRecursion (AmongRows (ops m) 8 more) (all_eight xs)
     olds = all_left (AmongRows (ops m) 8 more) (all_eight xs) (eight m (elem m a) ∷ []) own
 
     -- A symbol more, whatever the insertion answers.
@@ -283,14 +283,14 @@ module _ {m : Meaning} (l : Laws m) where
         let form : Form → Type 0 = λ h. Spanning (xs ++ a ∷ []) h in
         subst form (sym i.0) (record {
           form = s.form;
-          gives = subst (All (AmongRows (ops m) 8 (rows_of m f))) (sym (all_eight_more xs a)) (all_append (AmongRows (ops m) 8 (rows_of m f)) (all_eight xs) (eight m (elem m a) ∷ []) s.gives (i.1, tt));
-          given = subst (λ w. All (AmongRows (ops m) 8 w) (rows_of m f)) (sym (all_eight_more xs a)) (Mixing.all_among_trans laws 8 more (all_eight xs) (rows_of m f) (rows_all xs) olds s.given);
+          gives = subst (AllByRecursion (AmongRows (ops m) 8 (rows_of m f))) (sym (all_eight_more xs a)) (all_append (AmongRows (ops m) 8 (rows_of m f)) (all_eight xs) (eight m (elem m a) ∷ []) s.gives (i.1, tt));
+          given = subst (λ w. AllByRecursion (AmongRows (ops m) 8 w) (rows_of m f)) (sym (all_eight_more xs a)) (Mixing.all_among_trans laws 8 more (all_eight xs) (rows_of m f) (rows_all xs) olds s.given);
         })
     spanning_goes_on g true i = record {
       form = i.form;
-      gives = subst (All (AmongRows (ops m) 8 (rows_of m g))) (sym (all_eight_more xs a))
+      gives = subst (AllByRecursion (AmongRows (ops m) 8 (rows_of m g))) (sym (all_eight_more xs a))
           (all_append (AmongRows (ops m) 8 (rows_of m g)) (all_eight xs) (eight m (elem m a) ∷ []) (Mixing.all_among_trans laws 8 (rows_of m g) (rows_of m f) (all_eight xs) s.form.reduced.rows i.back.1 s.gives) (i.back.0, tt));
-      given = subst (λ w. All (AmongRows (ops m) 8 w) (rows_of m g)) (sym (all_eight_more xs a))
+      given = subst (λ w. AllByRecursion (AmongRows (ops m) 8 w) (rows_of m g)) (sym (all_eight_more xs a))
           (Mixing.all_among_trans laws 8 more (eight m (elem m a) ∷ rows_of m f) (rows_of m g) (numerals.fixed (elem m a), s.form.reduced.rows)
           ((all_right (AmongRows (ops m) 8 more) (all_eight xs) (eight m (elem m a) ∷ []) own).0, Mixing.all_among_trans laws 8 more (all_eight xs) (rows_of m f) (rows_all xs) olds s.given) i.from);
     }

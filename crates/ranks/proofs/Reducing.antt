@@ -12,7 +12,7 @@ use Rattle.std.proofs.Math.ListN.{get_or-eq_default}
 use Rattle.std.proofs.lemmas.List.{map-set}
 use Rattle.std.proofs.lemmas.Bool.{cases_lt}
 use Rattle.std.proofs.lemmas.List.{drop_all}
-use Rattle.fields.specs.Lists.{All}
+use Rattle.std.specs.List.{AllByRecursion}
 use Rattle.fields.specs.Field.{Ops, Zero, plus, scale}
 use Rattle.fields.specs.Field as field
 use Rattle.fields.specs.Meaning.{Meaning, Laws, clip, inverted}
@@ -66,7 +66,7 @@ used_set (suc p) (Some y ∷ ys) x h u = cons_path refl (used_set p ys x (omega 
 used_set (suc p) (None ∷ ys) x h u = used_set p ys x (omega arith) u
 
 -- What holds of all images of what is in use holds of one.
-used_at : {A B : Type 0} (P : B → Type 0) (f : A → B) (p : ℕ) (xs : List (Option A)) (x : A) → get_or xs p None ≡ Some x → All P (map f (in_use xs)) → P (f x)
+used_at : {A B : Type 0} (P : B → Type 0) (f : A → B) (p : ℕ) (xs : List (Option A)) (x : A) → get_or xs p None ≡ Some x → AllByRecursion P (map f (in_use xs)) → P (f x)
 used_at P f p [] x e k = let z : ◌≡◌ {A = ℕ} 0 1 = cc in absurd (omega arith)
 used_at P f ℕ.zero (Some y ∷ ys) x e k = let same : y ≡ x = cc in subst (λ w. P (f w)) same k.0
 used_at P f ℕ.zero (None ∷ ys) x e k = let z : ◌≡◌ {A = ℕ} 0 1 = cc in absurd (omega arith)
@@ -127,7 +127,7 @@ module _ {m : Meaning} (l : Laws m) where
       sym (less_none left (mix (ops m) 8 [] []) (k.size ∙ sym (Mixing.length_mix laws 8 [] [])) (Mixing.mix_none laws 8 []))
       ∙ ap (λ w. plus (ops m) left (map neg (mix (ops m) 8 (map (row m) (in_use w)) (pick (map is_some w) (drop p h))))) (sym (drop_all p slots (omega arith))) ∙ k.is
     where
-      less_none : (u v : List (Elem m)) → length u ≡ length v → All (Zero (ops m)) v → plus (ops m) u (map neg v) ≡ u
+      less_none : (u v : List (Elem m)) → length u ≡ length v → AllByRecursion (Zero (ops m)) v → plus (ops m) u (map neg v) ≡ u
       less_none [] [] e z = refl
       less_none [] (y ∷ v) e z = absurd (omega arith)
       less_none (x ∷ u) [] e z = absurd (omega arith)
@@ -174,7 +174,7 @@ module _ {m : Meaning} (l : Laws m) where
       record { low = lt; nonzero = λ z. n.0 (Carrier.elem_at m h i ∙ z); inverse = n.1 ∙ ap (ops m).inv (Carrier.elem_at m h i) }
 
   -- No place has one.
-  pub seeking_ends : {h : List ℕ} {i : ℕ} → 8 ≤ i → length h ≡ 8 → Seeking m h i → All (Zero (ops m)) (elems m h)
+  pub seeking_ends : {h : List ℕ} {i : ℕ} → 8 ≤ i → length h ≡ 8 → Seeking m h i → AllByRecursion (Zero (ops m)) (elems m h)
   seeking_ends {h} {i} le e k =
       Multiplication.of_coef laws (elems m h)
       (λ j. elim (cases_lt j 8) [ inl lt ↦ sym (Carrier.elem_at m h j) ∙ k.none j (omega arith) | inr ge ↦ get_or-eq_default (elems m h) (ops m).zero (omega (arith, length-map h (elem m))) ])
@@ -237,13 +237,13 @@ module _ {m : Meaning} (l : Laws m) where
   clear_ends f h left le c k = clearing_ends le k.room (c k)
 
   -- A row of zeros.
-  zero_row : All (Zero (ops m)) (elems m (0 ∷ 0 ∷ 0 ∷ 0 ∷ 0 ∷ 0 ∷ 0 ∷ 0 ∷ []))
+  zero_row : AllByRecursion (Zero (ops m)) (elems m (0 ∷ 0 ∷ 0 ∷ 0 ∷ 0 ∷ 0 ∷ 0 ∷ 0 ∷ []))
   zero_row = let z = Carrier.zero_is m in (z, (z, (z, (z, (z, (z, (z, (z, tt))))))))
 
   -- Nothing is changed where nothing is left.
-  pub inserted_none : (f : Form) (h left : List ℕ) → elems m left ≡ clear (ops m) (marks_of f) (rows_of m f) (elems m h) → All (Zero (ops m)) (elems m left)
+  pub inserted_none : (f : Form) (h left : List ℕ) → elems m left ≡ clear (ops m) (marks_of f) (rows_of m f) (elems m h) → AllByRecursion (Zero (ops m)) (elems m left)
       → InForm m f → Row (ops m) 8 (elems m h) → Inserted m f (elems m h) false f
-  inserted_none f h left e z k r = (refl, Inserting.none_spanned laws 8 (elems m h) (marks_of f) (rows_of m f) k.reduced r (subst (All (Zero (ops m))) e z))
+  inserted_none f h left e z k r = (refl, Inserting.none_spanned laws 8 (elems m h) (marks_of f) (rows_of m f) k.reduced r (subst (AllByRecursion (Zero (ops m))) e z))
 
   -- What is left of h, made one at the place p.
   abbrev ready : Form → List (Elem m) → ℕ → List (Elem m)
@@ -266,8 +266,8 @@ module _ {m : Meaning} (l : Laws m) where
         };
         more = ap length rows_are ∙ Inserting.length_put (before p (marks_of f)) (ready f (elems m h) p) (map (less m p (ready f (elems m h) p)) (rows_of m f)) ∙ ap suc (length-map (rows_of m f) (less m p (ready f (elems m h) p)));
         new = I.1;
-        from = subst (All (AmongRows (ops m) 8 (elems m h ∷ rows_of m f))) (sym rows_are) I.2;
-        back = subst (λ rs. All (AmongRows (ops m) 8 rs) (elems m h ∷ rows_of m f)) (sym rows_are) I.3;
+        from = subst (AllByRecursion (AmongRows (ops m) 8 (elems m h ∷ rows_of m f))) (sym rows_are) I.2;
+        back = subst (λ rs. AllByRecursion (AmongRows (ops m) 8 rs) (elems m h ∷ rows_of m f)) (sym rows_are) I.3;
       }
     where
       eg : marks_of g ≡ set (marks_of f) p true

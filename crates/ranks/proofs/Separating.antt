@@ -8,7 +8,7 @@
 use Rattle.std.proofs.Common.{◌≡◌, ℕ, suc, ◌+◌ as ◌+ℕ◌, ◌≤◌, List, [], ◌∷◌, ◌++◌, map, length, sym, refl, ap, ◌∙◌, subst, inl, inr, arith, length-append}
 use Rattle.std.proofs.lemmas.List.{length-map}
 use Rattle.std.proofs.lemmas.Bool.{cases_lt}
-use Rattle.fields.specs.Lists.{All}
+use Rattle.std.specs.List.{AllByRecursion}
 use Rattle.fields.specs.Field.{Ops, Laws, Zero, plus, scale}
 use Rattle.fields.specs.Basics
 use Rattle.fields.specs.Basics.{ring}
@@ -41,13 +41,13 @@ module _ {F : Type 0} {o : Ops F} (l : Laws o) where
   SpannedBy [] [] = Unit {0}
   SpannedBy [] (xs ∷ word) = ⊥
   SpannedBy (es ∷ spans) [] = ⊥
-  SpannedBy (es ∷ spans) (xs ∷ word) = All (Spanned o es) xs × SpannedBy spans word
+  SpannedBy (es ∷ spans) (xs ∷ word) = AllByRecursion (Spanned o es) xs × SpannedBy spans word
 
   abbrev pub Within : List F → List (Block F) → List (List F) → Type 0
   Within f [] [] = Unit {0}
   Within f [] (es ∷ spans) = ⊥
   Within f (block a bs ∷ blocks) [] = ⊥
-  Within f (block a bs ∷ blocks) (es ∷ spans) = All (λ b. Spanned o es (eval o a f b)) bs × Within f blocks spans
+  Within f (block a bs ∷ blocks) (es ∷ spans) = AllByRecursion (λ b. Spanned o es (eval o a f b)) bs × Within f blocks spans
 
   abbrev flat : List (Block F) → List (List F) → List (F × F)
   flat [] spans = []
@@ -68,7 +68,7 @@ module _ {F : Type 0} {o : Ops F} (l : Laws o) where
   within f [] (es ∷ spans) h = absurd h
   within f (block a bs ∷ blocks) [] h = absurd h
   within f (block a bs ∷ blocks) (es ∷ spans) h = (
-    subst (λ v. All (λ b. Spanned o es (v a f b)) bs) (sym (Evaluation.both_values l)) (all_map (Spanned o es) (value o a f) bs h.0),
+    subst (λ v. AllByRecursion (λ b. Spanned o es (v a f b)) bs) (sym (Evaluation.both_values l)) (all_map (Spanned o es) (value o a f) bs h.0),
     within f blocks spans h.1,
   )
 
@@ -81,14 +81,14 @@ module _ {F : Type 0} {o : Ops F} (l : Laws o) where
       omega (arith, length-append (Killing.paired l a es) (flat blocks spans), length-map {B = F × F} es (λ e. (a, e)), length_flat f blocks spans h.1)
 
   -- p times f vanishes where p vanishes at what spans the values of f: in a block.
-  block_killed : (p f : List F) (a : F) (bs es : List F) → All (Killing.Kills l p) (Killing.paired l a es) → All (λ b. Spanned o es (eval o a f b)) bs
-      → All (Killing.Kills l (times o p f)) (Killing.paired l a bs)
+  block_killed : (p f : List F) (a : F) (bs es : List F) → AllByRecursion (Killing.Kills l p) (Killing.paired l a es) → AllByRecursion (λ b. Spanned o es (eval o a f b)) bs
+      → AllByRecursion (Killing.Kills l (times o p f)) (Killing.paired l a bs)
   block_killed p f a [] es h s = tt
   block_killed p f a (b ∷ bs) es h s =
       (Multiplication.product_applies l a p f b ∙ Killing.span_killed l p a es (eval o a f b) h s.0, block_killed p f a bs es h s.1)
 
   -- In all blocks.
-  all_killed : (p f : List F) (blocks : List (Block F)) (spans : List (List F)) → Within f blocks spans → All (Killing.Kills l p) (flat blocks spans) → All (Killing.Kills l (times o p f)) (points blocks)
+  all_killed : (p f : List F) (blocks : List (Block F)) (spans : List (List F)) → Within f blocks spans → AllByRecursion (Killing.Kills l p) (flat blocks spans) → AllByRecursion (Killing.Kills l (times o p f)) (points blocks)
   all_killed p f [] spans s h = tt
   all_killed p f (block a bs ∷ blocks) [] s h = absurd s
   all_killed p f (block a bs ∷ blocks) (es ∷ spans) s h =
@@ -103,7 +103,7 @@ module _ {F : Type 0} {o : Ops F} (l : Laws o) where
 
   -- A polynomial whose values are spanned by few elements is zero: a polynomial that vanishes at those, times it, vanishes at
   -- all places, and the root count does the rest.
-  pub far_apart : (blocks : List (Block F)) (spans : List (List F)) (f : List F) → Lawful o blocks → Within f blocks spans → length f +ℕ together spans ≤ places blocks → All (Zero o) f
+  pub far_apart : (blocks : List (Block F)) (spans : List (List F)) (f : List F) → Lawful o blocks → Within f blocks spans → length f +ℕ together spans ≤ places blocks → AllByRecursion (Zero o) f
   far_apart blocks spans f lawful covered fits =
       let s = Killing.killer l (flat blocks spans) in
       let p = s.0 in
@@ -113,22 +113,22 @@ module _ {F : Type 0} {o : Ops F} (l : Laws o) where
       (RootCount.roots_few l blocks (times o p f) lawful m (all_killed p f blocks spans covered s.3))
 
   -- A codeword of small weight has the message zero.
-  light : (blocks : List (Block F)) (f : List F) (t : ℕ) → Lawful o blocks → Weighs o (codeword o f blocks) t → length f +ℕ t ≤ places blocks → All (Zero o) f
+  light : (blocks : List (Block F)) (f : List F) (t : ℕ) → Lawful o blocks → Weighs o (codeword o f blocks) t → length f +ℕ t ≤ places blocks → AllByRecursion (Zero o) f
   light blocks f t lawful w fits =
       let s = weight_spans (codeword o f blocks) t w in
       far_apart blocks s.0 f lawful (within f blocks s.0 s.2) (omega (arith, s.1))
 
   -- The values of the zero polynomial.
-  pub eval_null : (a : F) (f : List F) (b : F) → All (Zero o) f → eval o a f b ≡ zero
+  pub eval_null : (a : F) (f : List F) (b : F) → AllByRecursion (Zero o) f → eval o a f b ≡ zero
   eval_null a [] b z = refl
   eval_null a (c ∷ f) b z = ap (λ w. w * b + eval o a f (step o a b)) z.0 ∙ ap (λ w. zero * b + w) (eval_null a f (step o a b) z.1) ∙ simp (ring, l)
 
   -- Its codeword.
-  null_word : (f : List F) (blocks : List (Block F)) → All (Zero o) f → All (All (Zero o)) (codeword o f blocks)
+  null_word : (f : List F) (blocks : List (Block F)) → AllByRecursion (Zero o) f → AllByRecursion (AllByRecursion (Zero o)) (codeword o f blocks)
   null_word f [] z = tt
   null_word f (block a bs ∷ blocks) z = (row bs, null_word f blocks z)
     where
-      row : (cs : List F) → All (Zero o) (map (value o a f) cs)
+      row : (cs : List F) → AllByRecursion (Zero o) (map (value o a f) cs)
       row [] = tt
       row (c ∷ cs) = (subst (λ v. v a f c ≡ zero) (Evaluation.both_values l) (eval_null a f c z), row cs)
 
@@ -162,7 +162,7 @@ module _ {F : Type 0} {o : Ops F} (l : Laws o) where
         Sums.same_coefs l f g e (same f g (light blocks (minus f g) t lawful (subst (λ v. Weighs o v t) (word_minus f g blocks) w) (omega (arith, Rows.length_plus l f (scale o (neg one) g), length-map g (o.mul (neg one))))));
   }
     where
-      same : (f g : List F) → All (Zero o) (minus f g) → (i : ℕ) → coef o f i ≡ coef o g i
+      same : (f g : List F) → AllByRecursion (Zero o) (minus f g) → (i : ℕ) → coef o f i ≡ coef o g i
       same f g z i =
           Basics.equal_of_sub l (coef o f i) (coef o g i)
           (sym (Multiplication.coef_plus l f (scale o (neg one) g) i ∙ ap (λ w. coef o f i + w) (Multiplication.coef_scale l (neg one) g i ∙ one_less (coef o g i))) ∙ Multiplication.coef_of l (minus f g) z i)

@@ -5,7 +5,7 @@
 use Rattle.std.proofs.Common.{◌≡◌, ℕ, suc, ◌≤◌, Bool, true, false, ◌≢◌, List, [], ◌∷◌, map, length, sym, refl, ap, ◌∙◌, subst, arith}
 use Rattle.std.proofs.Math.Decide
 use Rattle.std.proofs.lemmas.List.{length-map}
-use Rattle.fields.specs.Lists.{All}
+use Rattle.std.specs.List.{AllByRecursion}
 use Rattle.fields.specs.Field.{Ops, Laws, Zero, Fixed, plus, comb}
 use Rattle.fields.specs.Basics
 use Rattle.fields.specs.Basics.{ring, twists}
@@ -48,17 +48,17 @@ module _ {F : Type 0} {o : Ops F} (l : Laws o) where
       (map (o.mul d) s.0, length-map s.0 (o.mul d) ∙ s.1, Rows.fixed_scaled l d s.0 p s.2, sym (Rows.comb_scale l d s.0 es ∙ ap (λ w. d * w) (sym s.3)))
 
   -- A combination of what is spanned.
-  pub spanned_comb : (es cs us : List F) → All (Fixed o) cs → All (Spanned o es) us → Spanned o es (comb o cs us)
+  pub spanned_comb : (es cs us : List F) → AllByRecursion (Fixed o) cs → AllByRecursion (Spanned o es) us → Spanned o es (comb o cs us)
   spanned_comb es [] us h k = spanned_zero es
   spanned_comb es (c ∷ cs) [] h k = spanned_zero es
   spanned_comb es (c ∷ cs) (u ∷ us) h k = spanned_add es (c * u) (comb o cs us) (spanned_scale es c u h.0 k.0) (spanned_comb es cs us h.1 k.1)
 
   -- What is spanned by elements that are spanned.
-  pub spanned_trans : (es us : List F) (v : F) → All (Spanned o es) us → Spanned o us v → Spanned o es v
+  pub spanned_trans : (es us : List F) (v : F) → AllByRecursion (Spanned o es) us → Spanned o us v → Spanned o es v
   spanned_trans es us v h s = subst (Spanned o es) (sym s.3) (spanned_comb es s.0 us s.2 h)
 
   -- The same of each of a list.
-  pub spanned_all : (es us vs : List F) → All (Spanned o es) us → All (Spanned o us) vs → All (Spanned o es) vs
+  pub spanned_all : (es us vs : List F) → AllByRecursion (Spanned o es) us → AllByRecursion (Spanned o us) vs → AllByRecursion (Spanned o es) vs
   spanned_all es us [] h k = tt
   spanned_all es us (v ∷ vs) h k = (spanned_trans es us v h k.0, spanned_all es us vs h k.1)
 
@@ -70,7 +70,7 @@ module _ {F : Type 0} {o : Ops F} (l : Laws o) where
       nought w = simp (ring, l)
 
   -- The same of each of a list.
-  pub all_more : (e : F) (es vs : List F) → All (Spanned o es) vs → All (Spanned o (e ∷ es)) vs
+  pub all_more : (e : F) (es vs : List F) → AllByRecursion (Spanned o es) vs → AllByRecursion (Spanned o (e ∷ es)) vs
   all_more e es [] h = tt
   all_more e es (v ∷ vs) h = (spanned_more e es v h.0, all_more e es vs h.1)
 
@@ -83,33 +83,33 @@ module _ {F : Type 0} {o : Ops F} (l : Laws o) where
       only w = simp (ring, l)
 
   -- What holds of each element holds of those that are marked.
-  pub all_pick : {A : Type 0} (P : A → Type 0) (marks : List Bool) (xs : List A) → All P xs → All P (pick marks xs)
+  pub all_pick : {A : Type 0} (P : A → Type 0) (marks : List Bool) (xs : List A) → AllByRecursion P xs → AllByRecursion P (pick marks xs)
   all_pick P [] xs h = tt
   all_pick P (m ∷ marks) [] h = tt
   all_pick P (true ∷ marks) (x ∷ xs) h = (h.0, all_pick P marks xs h.1)
   all_pick P (false ∷ marks) (x ∷ xs) h = all_pick P marks xs h.1
 
   -- A polynomial that vanishes at es vanishes at elements that they span.
-  killed : (p es xs : List F) → All (Killing.Kills l p) (Killing.paired l one es) → All (Spanned o es) xs → All (Killing.Kills l p) (Killing.paired l one xs)
+  killed : (p es xs : List F) → AllByRecursion (Killing.Kills l p) (Killing.paired l one es) → AllByRecursion (Spanned o es) xs → AllByRecursion (Killing.Kills l p) (Killing.paired l one xs)
   killed p es [] h s = tt
   killed p es (x ∷ xs) h s = (Killing.span_killed l p one es x h s.0, killed p es xs h s.1)
 
   -- The exchange lemma: no more elements are independent than there are elements that span them. A polynomial of degree
   -- `length es` vanishes at es, so at xs, and is not zero: the root count.
-  pub exchange : (xs es : List F) → Independent o xs → All (Spanned o es) xs → length xs ≤ length es
+  pub exchange : (xs es : List F) → Independent o xs → AllByRecursion (Spanned o es) xs → length xs ≤ length es
   exchange xs es ind s =
       elim (Decide.dec_le (length xs) (length es)) [
         | yes m ↦ m
         | no m ↦ absurd (Basics.one_zero l (sym a.2 ∙ Multiplication.coef_of l a.0 (null (omega arith)) (length (Killing.paired l one es))))
       ]
     where
-      a : (p : List F) × (length p ≡ suc (length (Killing.paired l one es))) × (coef o p (length (Killing.paired l one es)) ≡ one) × All (Killing.Kills l p) (Killing.paired l one es)
+      a : (p : List F) × (length p ≡ suc (length (Killing.paired l one es))) × (coef o p (length (Killing.paired l one es)) ≡ one) × AllByRecursion (Killing.Kills l p) (Killing.paired l one es)
       a = Killing.killer l (Killing.paired l one es)
 
       lawful : Lawful o (block one xs ∷ [])
       lawful = (Basics.one_zero l, ind, tt, tt)
 
-      null : suc (length es) ≤ length xs → All (Zero o) a.0
+      null : suc (length es) ≤ length xs → AllByRecursion (Zero o) a.0
       null m =
           RootCount.roots_few l (block one xs ∷ []) a.0 lawful (omega (arith, a.1, length-map {B = F × F} es (λ e. (one, e))))
           (all_append (Killing.Kills l a.0) (Killing.paired l one xs) [] (killed a.0 es xs a.3 s) tt)
@@ -119,7 +119,7 @@ module _ {F : Type 0} {o : Ops F} (l : Laws o) where
   lowered y = RootCount.less l (RootCount.ratio l one y) one
 
   -- What y and ys span, lowered, is spanned by ys lowered.
-  lower : (y : F) (ys : List F) (x : F) → y ≢ zero → (cs : List F) → length cs ≡ suc (length ys) → All (Fixed o) cs → x ≡ comb o cs (y ∷ ys) → Spanned o (map (lowered y) ys) (lowered y x)
+  lower : (y : F) (ys : List F) (x : F) → y ≢ zero → (cs : List F) → length cs ≡ suc (length ys) → AllByRecursion (Fixed o) cs → x ≡ comb o cs (y ∷ ys) → Spanned o (map (lowered y) ys) (lowered y x)
   lower y ys x n [] len fix e = absurd (omega arith)
   lower y ys x n (d ∷ ds) len fix e =
       (ds, omega (arith, length-map ys (lowered y)), fix.1, ap (lowered y) e ∙ L.0 (d * y) (comb o ds ys) ∙ ap (λ w. w + lowered y (comb o ds ys)) (L.1 d y fix.0 ∙ ap (λ w. d * w) (RootCount.ratio_root l one y n) ∙ Basics.mul_zero l d) ∙ Basics.zero_add l _ ∙ sym (Evaluation.comb_map l (lowered y) L ds ys fix.1))
@@ -192,7 +192,7 @@ module _ {F : Type 0} {o : Ops F} (l : Laws o) where
           (spanned_scale ys (neg (inv c)) (comb o cs ys) (Basics.fixed_neg l _ (Basics.fixed_inv l c m fix.0)) (cs, omega arith, fix.1, refl))
 
   abbrev Basis : List F → Type 0
-  Basis xs = (marks : List Bool) × Independent o (pick marks xs) × All (Spanned o (pick marks xs)) xs
+  Basis xs = (marks : List Bool) × Independent o (pick marks xs) × AllByRecursion (Spanned o (pick marks xs)) xs
 
   -- One element more: it is spanned, or is marked too.
   basis_more : (x : F) (xs : List F) (b : Basis xs) → Dec (Spanned o (pick b.0 xs) x) → Basis (x ∷ xs)
@@ -216,13 +216,13 @@ module _ {F : Type 0} {o : Ops F} (l : Laws o) where
   rank_unique xs r s p q = omega (arith, p.0.2, q.0.2, p.1 q.0.0 q.0.1, q.1 p.0.0 p.0.1)
 
   -- A list of rank r is spanned by r elements.
-  pub rank_spans : (xs : List F) (r : ℕ) → IsRank o xs r → (es : List F) × (length es ≡ r) × All (Spanned o es) xs
+  pub rank_spans : (xs : List F) (r : ℕ) → IsRank o xs r → (es : List F) × (length es ≡ r) × AllByRecursion (Spanned o es) xs
   rank_spans xs r h =
       let b = basis xs in
       (pick b.0 xs, rank_unique xs _ r ((b.0, b.1, refl), (λ marks ind. exchange (pick marks xs) (pick b.0 xs) ind (all_pick (Spanned o (pick b.0 xs)) marks xs b.2))) h, b.2)
 
   -- Independent elements that span the list, and that the list spans, are as many as its rank.
-  pub rank_by : (xs es : List F) → Independent o es → All (Spanned o es) xs → All (Spanned o xs) es → IsRank o xs (length es)
+  pub rank_by : (xs es : List F) → Independent o es → AllByRecursion (Spanned o es) xs → AllByRecursion (Spanned o xs) es → IsRank o xs (length es)
   rank_by xs es ind s t =
       let r = rank_exists xs in
       let E = rank_spans xs r.0 r.1 in

@@ -9,7 +9,7 @@
 --   Tells r P          the answer r is true where P holds, and false where it does not
 --   Depends m ls i     place i is the first whose element depends on the earlier ones
 use Rattle.std.specs.Prelude.{◌≡◌, ℕ, ◌+◌, ◌<◌, ◌≤◌, Bool, true, false, List, [], ◌∷◌, length, take, drop, slice_index}
-use Rattle.fields.specs.Lists.{All}
+use Rattle.std.specs.List.{AllByRecursion}
 use Rattle.fields.specs.Field.{Ops, Fixed, comb}
 use Rattle.fields.specs.Meaning.{Meaning}
 use Rattle.fields.specs.Elements.{elem, elems, ops}
@@ -23,7 +23,7 @@ pick (false ∷ marks) (x ∷ xs) = pick marks xs
 
 module _ {F : Type 0} (o : Ops F) where
   abbrev pub Spanned : List F → F → Type 0
-  Spanned es v = (cs : List F) × (length cs ≡ length es) × All (Fixed o) cs × (v ≡ comb o cs es)
+  Spanned es v = (cs : List F) × (length cs ≡ length es) × AllByRecursion (Fixed o) cs × (v ≡ comb o cs es)
 
   abbrev pub IsRank : List F → ℕ → Type 0
   IsRank xs r =

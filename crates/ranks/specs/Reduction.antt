@@ -13,7 +13,7 @@
 --   Inserted m f h r g     what the insertion of a row answers and leaves
 --   eight m x              the digits of x, with zeros up to eight places
 use Rattle.std.specs.Prelude.{◌≡◌, ℕ, suc, Bool, true, false, List, [], ◌∷◌, map, length, drop, Option, Some, None, is_some}
-use Rattle.fields.specs.Lists.{All}
+use Rattle.std.specs.List.{AllByRecursion}
 use Rattle.fields.specs.Field.{Ops, Fixed, comb}
 use Rattle.fields.specs.Meaning.{Meaning, digit_row}
 use Rattle.fields.specs.Elements.{Elem, elems, ops}
@@ -40,10 +40,10 @@ module _ {F : Type 0} (o : Ops F) where
   mix (suc n) hs xs = comb o (heads hs) xs ∷ mix n (tails hs) xs
 
   abbrev pub Row : ℕ → List F → Type 0
-  Row n h = (length h ≡ n) × All (Fixed o) h
+  Row n h = (length h ≡ n) × AllByRecursion (Fixed o) h
 
   abbrev pub AmongRows : ℕ → List (List F) → List F → Type 0
-  AmongRows n hs h = (cs : List F) × (length cs ≡ length hs) × All (Fixed o) cs × (h ≡ mix n hs cs)
+  AmongRows n hs h = (cs : List F) × (length cs ≡ length hs) × AllByRecursion (Fixed o) cs × (h ≡ mix n hs cs)
 
   -- n zeros, and n entries of which the j-th is one and the others are zero.
   abbrev pub zeros : ℕ → List F
@@ -64,7 +64,7 @@ pub record Reduced {F : Type 0} (o : Ops F) (n : ℕ) (marks : List Bool) (hs : 
   pub size : length marks ≡ n
   pub full : count marks ≡ length hs
   pub pivots : Pivots o 0 marks hs
-  pub rows : All (Row o n) hs
+  pub rows : AllByRecursion (Row o n) hs
 
 abbrev pub row : (m : Meaning) → RowCodes → List (Elem m)
 row m r = elems m r.cells
@@ -89,8 +89,8 @@ pub record Extended (m : Meaning) (f : Form) (h : List (Elem m)) (g : Form) : Ty
   pub form : InForm m g
   pub more : length (rows_of m g) ≡ suc (length (rows_of m f))
   pub new : ¬ AmongRows (ops m) 8 (rows_of m f) h
-  pub from : All (AmongRows (ops m) 8 (h ∷ rows_of m f)) (rows_of m g)
-  pub back : All (AmongRows (ops m) 8 (rows_of m g)) (h ∷ rows_of m f)
+  pub from : AllByRecursion (AmongRows (ops m) 8 (h ∷ rows_of m f)) (rows_of m g)
+  pub back : AllByRecursion (AmongRows (ops m) 8 (rows_of m g)) (h ∷ rows_of m f)
 
 -- Where h is among the sums already nothing is changed.
 abbrev pub Inserted : (m : Meaning) → Form → List (Elem m) → Bool → Form → Type 0

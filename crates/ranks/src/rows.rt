@@ -1,6 +1,6 @@
 // Rows of eight fixed coefficients, and reduced forms of them.
 ghost use Rattle.std.specs.Prelude.{◌≡◌, ℕ, ◌<◌, [], length, slice_index, MatchOption};
-ghost use Rattle.fields.specs.Lists.{All};
+ghost use Rattle.std.specs.List.{AllByRecursion};
 ghost use Rattle.fields.specs.Field.{Zero, plus, scale};
 ghost use Rattle.fields.specs.Meaning.{Meaning, digit_row};
 ghost use Rattle.fields.specs.Elements.{elem, ops};
@@ -46,7 +46,7 @@ fn combined<K: Kind>(kind: &K, a: &Row, c: u8, b: &Row) -> Row
 // The first place where a row is not 0; nothing where it is 0 everywhere.
 fn leading<K: Kind>(kind: &K, row: &Row) -> Option<Pivot>
     ensures { let m = K.meaning kind.now in let h = row_of m row.now in
-        MatchOption result (All (Zero (ops m)) h) (λ t. PivotAt m h t.place t.inverse) }
+        MatchOption result (AllByRecursion (Zero (ops m)) h) (λ t. PivotAt m h t.place t.inverse) }
 {
     for (place, x) in row.cells.iter().enumerate() {
         if let Some(inverse) = kind.inverse(*x) {

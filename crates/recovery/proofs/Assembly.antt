@@ -2,7 +2,7 @@
 use Rattle.std.proofs.Common.{◌≡◌, ℕ, suc, ◌+◌, ◌*◌, ◌<◌, ◌≤◌, Bool, true, false, List, [], ◌∷◌, map, length, get_or, take, drop, sym, refl, ap, ◌∙◌, subst, arith}
 use Rattle.std.proofs.lemmas.List.{length-map}
 use Rattle.std.proofs.lemmas.List.{take_all, take-map, drop-map, length-take, length-take-le}
-use Rattle.fields.specs.Lists.{All}
+use Rattle.std.specs.List.{AllByRecursion}
 use Rattle.fields.specs.Field.{plus}
 use Rattle.fields.specs.Field as field
 use Rattle.fields.specs.Meaning.{Meaning, Laws}
@@ -123,7 +123,7 @@ module _ {m : Meaning} (l : Laws m) where
       room = omega (arith, rest_size, few);
     }
       where
-        all_short : (ns : List ℕ) → ((i : ℕ) → i < length ns → get_or ns i 0 ≤ 8) → All (λ n. n ≤ 8) ns
+        all_short : (ns : List ℕ) → ((i : ℕ) → i < length ns → get_or ns i 0 ≤ 8) → AllByRecursion (λ n. n ≤ 8) ns
         all_short [] k = tt
         all_short (n ∷ ns) k = (k 0 (omega arith), all_short ns (λ i p. k (suc i) (omega arith)))
 

@@ -3,7 +3,7 @@ use Rattle.std.proofs.Common.{◌≡◌, ℕ, suc, ◌+◌, ◌≤◌, List, [],
 use Rattle.std.proofs.lemmas.List.{length-map}
 use Rattle.std.proofs.lemmas.List.{take_all, length-take-le, length-drop, get_or_past}
 use Rattle.std.proofs.lemmas.Bool.{cases_lt}
-use Rattle.fields.specs.Lists.{All}
+use Rattle.std.specs.List.{AllByRecursion}
 use Rattle.fields.specs.Field.{plus}
 use Rattle.fields.specs.Field as field
 use Rattle.fields.specs.Meaning.{Meaning, Laws}
@@ -149,7 +149,7 @@ module _ {m : Meaning} (l : Laws m) where
         (λ i k. get_or_past (elems m s) i (ops m).zero (omega (arith, length_killer, row_counts))),
         (λ z. Basics.one_zero laws (sym kills.annihilator.monic.2 ∙ Multiplication.coef_of laws (elems m s) z kills.annihilator.monic.0)),
         Matching.zeros_are l (elems m s) law.blocks ns h.blocks gs (stops c.course) (elems m w) law.sizes (sym law.grouped) room holds.size all
-            (subst (All (Vanishes (ops m) (elems m s))) points_all kills.annihilator.vanishes),
+            (subst (AllByRecursion (Vanishes (ops m) (elems m s))) points_all kills.annihilator.vanishes),
       )
 
       module _ (qs : List ProgramSite) (spots_are : spots m qs ≡ take 24 (all_spots m ns h.blocks (elems m s) (stops c.course) w)) (t : TwoPairs) (carried : Held m (c.dimension + h.rows) (spots m qs) t) where

@@ -7,7 +7,7 @@
 --   left_lawful                             the blocks that are left are lawful, with a place less for each column hint
 use Rattle.std.proofs.Common.{◌≡◌, suc, ◌+◌ as ◌+ℕ◌, max, Bool, true, false, List, [], ◌∷◌, map, length, sym, refl, ap, ◌∙◌, subst, arith}
 use Rattle.std.proofs.lemmas.List.{length-map}
-use Rattle.fields.specs.Lists.{All}
+use Rattle.std.specs.List.{AllByRecursion}
 use Rattle.fields.specs.Field.{Ops, Laws, Zero, Fixed, plus, comb}
 use Rattle.fields.specs.Basics
 use Rattle.fields.specs.Basics.{ring}
@@ -38,7 +38,7 @@ module _ {F : Type 0} {o : Ops F} (l : Laws o) where
   infixl 65 ◌+◌
   infixl 70 ◌*◌
   -- Clearing commutes with a linear map.
-  pub clear_map : (T : F → F) → Evaluation.Linear l T → (marks : List Bool) (hs : List (List F)) (v : List F) → All (All (Fixed o)) hs → clear o marks hs (map T v) ≡ map T (clear o marks hs v)
+  pub clear_map : (T : F → F) → Evaluation.Linear l T → (marks : List Bool) (hs : List (List F)) (v : List F) → AllByRecursion (AllByRecursion (Fixed o)) hs → clear o marks hs (map T v) ≡ map T (clear o marks hs v)
   clear_map T L marks hs v k =
       ap (λ n. plus o (map T v) (map neg (mix o n hs (pick marks (map T v))))) (length-map v T)
       ∙ ap (λ w. plus o (map T v) (map neg (mix o (length v) hs w))) (Mixing.pick_map T marks v)
@@ -62,15 +62,15 @@ module _ {F : Type 0} {o : Ops F} (l : Laws o) where
       swap p q r s = simp (Placewise.map_plus l neg (Placewise.neg_linear l), Sums.plus_assoc l, Placewise.plus_left_comm l)
 
   -- What spans a list spans what is left of it.
-  pub clear_spanned : (marks : List Bool) (hs : List (List F)) (es v : List F) → All (All (Fixed o)) hs → All (Spanned o es) v → All (Spanned o es) (clear o marks hs v)
+  pub clear_spanned : (marks : List Bool) (hs : List (List F)) (es v : List F) → AllByRecursion (AllByRecursion (Fixed o)) hs → AllByRecursion (Spanned o es) v → AllByRecursion (Spanned o es) (clear o marks hs v)
   clear_spanned marks hs es v k h =
       Placewise.all_sum l es v (map neg (mix o (length v) hs (pick marks v))) h
       (Placewise.all_neg l es (mix o (length v) hs (pick marks v)) (Placewise.all_mix l (length v) hs es (pick marks v) k (Spans.all_pick l (Spanned o es) marks v h)))
 
   -- A sum of the rows is cleared to zero.
   pub clear_mix : (marks : List Bool) (hs : List (List F)) (xs : List F) → Pivots o 0 marks hs → length xs ≡ length hs → count marks ≡ length xs
-      → All (Zero o) (clear o marks hs (mix o (length marks) hs xs))
-  clear_mix marks hs xs h e c = subst (λ w. All (Zero o) (plus o v (map neg w))) (sym same) (Mixing.all_away l v)
+      → AllByRecursion (Zero o) (clear o marks hs (mix o (length marks) hs xs))
+  clear_mix marks hs xs h e c = subst (λ w. AllByRecursion (Zero o) (plus o v (map neg w))) (sym same) (Mixing.all_away l v)
     where
       v : List F
       v = mix o (length marks) hs xs
@@ -83,14 +83,14 @@ module _ {F : Type 0} {o : Ops F} (l : Laws o) where
   -- A combination of what is left of v, where ps are taken off times their rows, is one of v at the same places less one of ps.
   Gathered : List Bool → List (List F) → List F → List F → List F → Type 0
   Gathered marks hs v cs ps =
-      (w : List F) × All (Fixed o) w × (comb o cs (omit marks (plus o v (map neg (mix o (length v) hs ps)))) ≡ comb o cs (omit marks v) + neg (comb o w ps))
+      (w : List F) × AllByRecursion (Fixed o) w × (comb o cs (omit marks (plus o v (map neg (mix o (length v) hs ps)))) ≡ comb o cs (omit marks v) + neg (comb o w ps))
 
   -- Where nothing is left both are zero.
   no_sum : (cs ps : List F) → comb o cs [] ≡ comb o cs [] + neg (comb o [] ps)
   no_sum cs ps = Spans.comb_nil l cs ∙ sym (ap (λ w. w + neg zero) (Spans.comb_nil l cs) ∙ Basics.add_neg l zero)
 
   -- It is so for all lists.
-  gathered : (marks : List Bool) (hs : List (List F)) (v cs ps : List F) → All (All (Fixed o)) hs → All (Fixed o) cs → Gathered marks hs v cs ps
+  gathered : (marks : List Bool) (hs : List (List F)) (v cs ps : List F) → AllByRecursion (AllByRecursion (Fixed o)) hs → AllByRecursion (Fixed o) cs → Gathered marks hs v cs ps
   unfolding Gathered
   gathered [] hs v cs ps k fix = ([], tt, no_sum cs ps)
   gathered (m ∷ marks) hs [] cs ps k fix = ([], tt, no_sum cs ps)
@@ -139,7 +139,7 @@ module _ {F : Type 0} {o : Ops F} (l : Laws o) where
   length_weave (false ∷ marks) (c ∷ cs) us = ap suc (length_weave marks cs us)
 
   -- It is fixed where both lists are.
-  fixed_weave : (marks : List Bool) (cs us : List F) → All (Fixed o) cs → All (Fixed o) us → All (Fixed o) (weave marks cs us)
+  fixed_weave : (marks : List Bool) (cs us : List F) → AllByRecursion (Fixed o) cs → AllByRecursion (Fixed o) us → AllByRecursion (Fixed o) (weave marks cs us)
   fixed_weave [] cs us h k = tt
   fixed_weave (true ∷ marks) cs [] h k = (Basics.fixed_zero l, fixed_weave marks cs [] h k)
   fixed_weave (true ∷ marks) cs (u ∷ us) h k = (k.0, fixed_weave marks cs us h k.1)
@@ -147,7 +147,7 @@ module _ {F : Type 0} {o : Ops F} (l : Laws o) where
   fixed_weave (false ∷ marks) (c ∷ cs) us h k = (h.0, fixed_weave marks cs us h.1 k)
 
   -- Where it is zero, so are the coefficients of what is left.
-  zero_weave : (marks : List Bool) (cs us : List F) → length cs +ℕ count marks ≡ length marks → All (Zero o) (weave marks cs us) → All (Zero o) cs
+  zero_weave : (marks : List Bool) (cs us : List F) → length cs +ℕ count marks ≡ length marks → AllByRecursion (Zero o) (weave marks cs us) → AllByRecursion (Zero o) cs
   zero_weave [] [] us e h = tt
   zero_weave [] (c ∷ cs) us e h = absurd (omega arith)
   zero_weave (true ∷ marks) cs [] e h = zero_weave marks cs [] (omega arith) h.1
@@ -156,7 +156,7 @@ module _ {F : Type 0} {o : Ops F} (l : Laws o) where
   zero_weave (false ∷ marks) (c ∷ cs) us e h = (h.0, zero_weave marks cs us (omega arith) h.1)
 
   -- What is left of independent elements is independent.
-  left_independent : (marks : List Bool) (hs : List (List F)) (bs : List F) → length marks ≡ length bs → All (All (Fixed o)) hs → Independent o bs → Independent o (omit marks (clear o marks hs bs))
+  left_independent : (marks : List Bool) (hs : List (List F)) (bs : List F) → length marks ≡ length bs → AllByRecursion (AllByRecursion (Fixed o)) hs → Independent o bs → Independent o (omit marks (clear o marks hs bs))
   unfolding Gathered
   left_independent marks hs bs len k ind cs m fix e =
       zero_weave marks cs (map neg g.0) (omega (arith, m, length_omit marks (clear o marks hs bs) (Inserting.length_clear l marks hs bs ∙ sym len)))
@@ -169,7 +169,7 @@ module _ {F : Type 0} {o : Ops F} (l : Laws o) where
       sum = comb_weave marks cs (map neg g.0) bs (sym len) ∙ ap (λ w. comb o cs (omit marks bs) + w) (Placewise.comb_neg l g.0 (pick marks bs)) ∙ sym g.2 ∙ e
 
   -- The parameters are the same.
-  left_apart : (a : F) (marks : List (List Bool)) (sites : List (Site F)) → All (Apart o a) (code sites) → All (Apart o a) (left_code o marks sites)
+  left_apart : (a : F) (marks : List (List Bool)) (sites : List (Site F)) → AllByRecursion (Apart o a) (code sites) → AllByRecursion (Apart o a) (left_code o marks sites)
   left_apart a [] sites h = tt
   left_apart a (m ∷ marks) [] h = tt
   left_apart a (m ∷ marks) (s ∷ sites) h = (h.0, left_apart a marks sites h.1)

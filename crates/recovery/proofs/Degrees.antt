@@ -2,7 +2,7 @@
 use Rattle.std.proofs.Common.{◌≡◌, ℕ, suc, ◌+◌ as ◌+ℕ◌, ◌-◌, ◌<◌, ◌≤◌, List, [], ◌∷◌, map, length, take, sym, refl, ap, ◌∙◌, subst, inl, inr, arith, length-take, get_or-take}
 use Rattle.std.proofs.Math.ListN.{get_or-eq_default}
 use Rattle.std.proofs.lemmas.Bool.{cases_lt}
-use Rattle.fields.specs.Lists.{All}
+use Rattle.std.specs.List.{AllByRecursion}
 use Rattle.fields.specs.Field.{Ops, Laws, Zero, plus}
 use Rattle.fields.specs.Basics
 use Rattle.fields.specs.Basics.{ring}
@@ -89,5 +89,5 @@ module _ {F : Type 0} {o : Ops F} (l : Laws o) where
       → n +ℕ together spans ≤ places blocks → (i : ℕ) → coef o f i ≡ zero
   far_below n blocks spans f lawful near h fits i = elim (cases_lt i n) [ inl k ↦ sym (get_or-take n f i zero k) ∙ Multiplication.coef_of l (take n f) null i | inr k ↦ h i k ]
     where
-      null : All (Zero o) (take n f)
+      null : AllByRecursion (Zero o) (take n f)
       null = Separating.far_apart l blocks spans (take n f) lawful (within_same f (take n f) (eval_take n f h) blocks spans near) (omega (arith, length-take n f))

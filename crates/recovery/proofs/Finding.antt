@@ -4,7 +4,7 @@
 --   finds              each message with a splitting within the budget is the quotient
 use Rattle.std.proofs.Common.{◌≡◌, ℕ, suc, ◌+◌ as ◌+ℕ◌, ◌-◌, ◌*◌ as ◌*ℕ◌, ◌≤◌, Bool, List, [], ◌∷◌, map, length, sym, ap, ◌∙◌, subst, inl, inr, arith, length-append}
 use Rattle.std.proofs.lemmas.Bool.{cases_lt}
-use Rattle.fields.specs.Lists.{All}
+use Rattle.std.specs.List.{AllByRecursion}
 use Rattle.fields.specs.Field.{Ops, Laws, Zero}
 use Rattle.fields.specs.Basics
 use Rattle.skew.specs.Values.{twisted}
@@ -46,13 +46,13 @@ module _ {F : Type 0} {o : Ops F} (l : Laws o) where
       )
 
   -- A pair that vanishes at spots vanishes there by the recursion.
-  by_recursion : (q : Two F) (ps : List (Spot F)) → All (λ s. worth o q s ≡ zero) ps → All (Leftovers.Null l q) ps
+  by_recursion : (q : Two F) (ps : List (Spot F)) → AllByRecursion (λ s. worth o q s ≡ zero) ps → AllByRecursion (Leftovers.Null l q) ps
   by_recursion q ps h =
-      subst (λ v. All (λ s. v s.parameter q.q0 s.locator + v s.parameter q.q1 s.second ≡ zero) ps) (sym (Evaluation.both_values l)) h
+      subst (λ v. AllByRecursion (λ s. v s.parameter q.q0 s.locator + v s.parameter q.q1 s.second ≡ zero) ps) (sym (Evaluation.both_values l)) h
 
   -- The divisor is not zero.
   pub nonzero_product : {k a b : ℕ} {ps : List (Spot F)} {A B : Two F} {σ p : List F} (sites : List (Site F))
-      → Carried o k ps A B a b → Annihilates o σ sites → Product o B.q1 σ p → ¬ All (Zero o) p
+      → Carried o k ps A B a b → Annihilates o σ sites → Product o B.q1 σ p → ¬ AllByRecursion (Zero o) p
   nonzero_product {b = b} {B = B} sites carried kills product = product.nonzero (λ z. carried.B1.0 (Multiplication.coef_of l B.q1 z b)) kills.1
 
   -- Both pairs give a polynomial with f that few elements span. For the first it is not zero, so the first has a large degree and the
@@ -71,7 +71,7 @@ module _ {F : Type 0} {o : Ops F} (l : Laws o) where
       law : Lawful o (left_code o marks sites) × (places (left_code o marks sites) +ℕ column_count (givens sites) ≡ places (code sites))
       law = Clearing.left_lawful l marks sites lawful red
 
-      vanishes : (w : Two F) (n : ℕ) → All (λ s. worth o w s ≡ zero) (all_points o σ marks sites) → Below o n (Leftovers.joint l w σ f) → n +ℕ t ≤ places (left_code o marks sites)
+      vanishes : (w : Two F) (n : ℕ) → AllByRecursion (λ s. worth o w s ≡ zero) (all_points o σ marks sites) → Below o n (Leftovers.joint l w σ f) → n +ℕ t ≤ places (left_code o marks sites)
           → (i : ℕ) → coef o (Leftovers.joint l w σ f) i ≡ zero
       vanishes w n z low fits =
           let s = Leftovers.at_sites l w σ f marks sites parts t red kills.2 splitting weight (by_recursion w (all_points o σ marks sites) z) in

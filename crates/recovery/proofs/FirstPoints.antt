@@ -5,7 +5,7 @@
 use Rattle.std.proofs.Common.{◌≡◌, ℕ, suc, ◌-◌, ◌≤◌, List, [], ◌∷◌, ◌++◌, map, length, take, sym, refl, ap, ◌∙◌, arith}
 use Rattle.std.proofs.lemmas.List.{length-map}
 use Rattle.std.proofs.lemmas.List.{take-map, length-take}
-use Rattle.fields.specs.Lists.{All}
+use Rattle.std.specs.List.{AllByRecursion}
 use Rattle.fields.specs.Field.{Ops, Laws, Zero, Fixed, comb}
 use Rattle.fields.specs.Basics
 use Rattle.fields.specs.Basics.{ring}
@@ -62,7 +62,7 @@ module _ {F : Type 0} {o : Ops F} (l : Laws o) where
   length_padded (c ∷ cs) (b ∷ bs) = ap suc (length_padded cs bs)
 
   -- It is fixed where cs is.
-  fixed_padded : (cs bs : List F) → All (Fixed o) cs → All (Fixed o) (padded cs bs)
+  fixed_padded : (cs bs : List F) → AllByRecursion (Fixed o) cs → AllByRecursion (Fixed o) (padded cs bs)
   fixed_padded cs [] h = tt
   fixed_padded [] (b ∷ bs) h = (Basics.fixed_zero l, fixed_padded [] bs h)
   fixed_padded (c ∷ cs) (b ∷ bs) h = (h.0, fixed_padded cs bs h.1)
@@ -81,7 +81,7 @@ module _ {F : Type 0} {o : Ops F} (l : Laws o) where
   comb_padded (suc k) (c ∷ cs) (b ∷ bs) e = ap (λ w. c * b + w) (comb_padded k cs bs (omega arith))
 
   -- Where it is zero so is cs.
-  zeros_padded : (cs bs : List F) → length cs ≤ length bs → All (Zero o) (padded cs bs) → All (Zero o) cs
+  zeros_padded : (cs bs : List F) → length cs ≤ length bs → AllByRecursion (Zero o) (padded cs bs) → AllByRecursion (Zero o) cs
   zeros_padded [] bs e h = tt
   zeros_padded (c ∷ cs) [] e h = absurd (omega arith)
   zeros_padded (c ∷ cs) (b ∷ bs) e h = (h.0, zeros_padded cs bs (omega arith) h.1)
@@ -92,7 +92,7 @@ module _ {F : Type 0} {o : Ops F} (l : Laws o) where
       zeros_padded cs bs (omega (arith, e, length-take k bs)) (free (padded cs bs) (length_padded cs bs) (fixed_padded cs bs fixed) (comb_padded k cs bs e ∙ z))
 
   -- What is apart from all blocks is apart from the first.
-  apart_first : (a : F) (k : ℕ) (blocks : List (Block F)) → All (Apart o a) blocks → All (Apart o a) (first_blocks k blocks)
+  apart_first : (a : F) (k : ℕ) (blocks : List (Block F)) → AllByRecursion (Apart o a) blocks → AllByRecursion (Apart o a) (first_blocks k blocks)
   apart_first a k [] h = tt
   apart_first a k (block b bs ∷ blocks) h = (h.0, apart_first a (k - length bs) blocks h.1)
 

@@ -7,7 +7,7 @@
 use Rattle.std.proofs.Common.{◌≡◌, ℕ, suc, ◌+◌ as ◌+ℕ◌, ◌-◌, ◌*◌ as ◌*ℕ◌, ◌≤◌, Bool, false, List, [], ◌∷◌, ◌++◌, map, length, get_or, take, drop, replicate, sym, refl, ap, ◌∙◌, subst, ap₂, arith, take-append-drop}
 use Rattle.std.proofs.lemmas.List.{length-map, length-replicate}
 use Rattle.std.proofs.lemmas.List.{length-drop, length-take-le, get_or_past}
-use Rattle.fields.specs.Lists.{All}
+use Rattle.std.specs.List.{AllByRecursion}
 use Rattle.fields.specs.Field.{Ops, Laws, plus}
 use Rattle.fields.specs.Basics
 use Rattle.fields.specs.Basics.{ring}
@@ -132,7 +132,7 @@ module _ {F : Type 0} {o : Ops F} (l : Laws o) where
       )
 
   -- There is no row hint to take to zero.
-  zeros_bare : (blocks : List (Block F)) (ns : List ℕ) (w : List F) → All (λ s. All (λ u. eval o s.parameter (one ∷ []) u ≡ zero) s.given.rows) (bare blocks ns w)
+  zeros_bare : (blocks : List (Block F)) (ns : List ℕ) (w : List F) → AllByRecursion (λ s. AllByRecursion (λ u. eval o s.parameter (one ∷ []) u ≡ zero) s.given.rows) (bare blocks ns w)
   zeros_bare [] ns w = tt
   zeros_bare (block a bs ∷ blocks) [] w = tt
   zeros_bare (block a bs ∷ blocks) (n ∷ ns) w = (tt, zeros_bare blocks ns (drop n w))

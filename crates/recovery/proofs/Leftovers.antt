@@ -8,7 +8,7 @@
 --   at_sites             so the values of the joint polynomial are spanned by as few elements as the full part weighs
 use Rattle.std.proofs.Common.{◌≡◌, ℕ, Bool, true, false, List, [], ◌∷◌, map, length, sym, refl, ap, ◌∙◌, subst, arith}
 use Rattle.std.proofs.lemmas.List.{length-map}
-use Rattle.fields.specs.Lists.{All}
+use Rattle.std.specs.List.{AllByRecursion}
 use Rattle.fields.specs.Field.{Ops, Laws, Zero, Fixed, plus}
 use Rattle.fields.specs.Basics
 use Rattle.fields.specs.Rows
@@ -41,7 +41,7 @@ omit_map T (true ∷ marks) (x ∷ v) = omit_map T marks v
 omit_map {B = B} T (false ∷ marks) (x ∷ v) = ap {B = List B} (λ w. T x ∷ w) (omit_map T marks v)
 
 -- What holds of each element holds of those that are not marked.
-all_omit : {A : Type 0} (P : A → Type 0) (marks : List Bool) (xs : List A) → All P xs → All P (omit marks xs)
+all_omit : {A : Type 0} (P : A → Type 0) (marks : List Bool) (xs : List A) → AllByRecursion P xs → AllByRecursion P (omit marks xs)
 all_omit P [] xs h = tt
 all_omit P (m ∷ marks) [] h = tt
 all_omit P (true ∷ marks) (x ∷ xs) h = all_omit P marks xs h.1
@@ -62,9 +62,9 @@ module _ {F : Type 0} {o : Ops F} (l : Laws o) where
 
   -- What a linear map that takes the row hints to zero leaves of a splitting, once cleared.
   left_over : (T : F → F) → Evaluation.Linear l T → (marks : List Bool) (g : Given F) (e : List F) (p : Parts F) (es : List F) → Reduced o (length e) marks g.columns
-      → ((x : F) → Spanned o g.rows x → T x ≡ zero) → Splits o g e p → All (Spanned o es) p.full → All (Spanned o (map T es)) (map T (clear o marks g.columns e))
+      → ((x : F) → Spanned o g.rows x → T x ≡ zero) → Splits o g e p → AllByRecursion (Spanned o es) p.full → AllByRecursion (Spanned o (map T es)) (map T (clear o marks g.columns e))
   left_over T L marks g e p es red kills P h =
-      subst (λ w. All (Spanned o (map T es)) w) (sym are)
+      subst (λ w. AllByRecursion (Spanned o (map T es)) w) (sym are)
       (Placewise.all_sum l (map T es) (image p.full) _ (Placewise.all_image l T L es (cleared p.full) (Clearing.clear_spanned l marks g.columns es p.full fixed h))
       (Placewise.all_sum l (map T es) (image p.row) (image p.column)
       (Placewise.none_image l T (Spanned o g.rows) kills (map T es) (cleared p.row) (Clearing.clear_spanned l marks g.columns g.rows p.row fixed P.rows))
@@ -79,15 +79,15 @@ module _ {F : Type 0} {o : Ops F} (l : Laws o) where
       xs : List F
       xs = P.columns.0
 
-      fixed : All (All (Fixed o)) g.columns
+      fixed : AllByRecursion (AllByRecursion (Fixed o)) g.columns
       fixed = Inserting.fixed_list l g.columns (length e) red.rows
 
       column_is : p.column ≡ mix o (length marks) g.columns P.columns.0
       column_is = P.columns.2 ∙ ap (λ n. mix o n g.columns P.columns.0) (sym red.size)
 
-      gone : All (Zero o) (clear o marks g.columns p.column)
+      gone : AllByRecursion (Zero o) (clear o marks g.columns p.column)
       gone =
-          subst (λ w. All (Zero o) (clear o marks g.columns w)) (sym column_is)
+          subst (λ w. AllByRecursion (Zero o) (clear o marks g.columns w)) (sym column_is)
           (Clearing.clear_mix l marks g.columns xs red.pivots P.columns.1 (omega (arith, red.full, P.columns.1)))
 
       length_column : length p.column ≡ length e
@@ -126,11 +126,11 @@ module _ {F : Type 0} {o : Ops F} (l : Laws o) where
     )
 
     -- What the row hints span goes to zero where σ vanishes at them.
-    rest_rows : (a : F) (rows : List F) → All (λ u. eval o a σ u ≡ zero) rows → (x : F) → Spanned o rows x → rest_of a x ≡ zero
+    rest_rows : (a : F) (rows : List F) → AllByRecursion (λ u. eval o a σ u ≡ zero) rows → (x : F) → Spanned o rows x → rest_of a x ≡ zero
     rest_rows a rows h x s =
         ap neg (Multiplication.product_applies l a q.q1 σ x ∙ ap (eval o a q.q1) (Killing.span_killed l σ a rows x (pairs rows h) s) ∙ Evaluation.eval_zero l a q.q1) ∙ Basics.neg_zero l
       where
-        pairs : (us : List F) → All (λ u. eval o a σ u ≡ zero) us → All (Killing.Kills l σ) (Killing.paired l a us)
+        pairs : (us : List F) → AllByRecursion (λ u. eval o a σ u ≡ zero) us → AllByRecursion (Killing.Kills l σ) (Killing.paired l a us)
         pairs [] k = tt
         pairs (u ∷ us) k = (k.0, pairs us k.1)
 
@@ -144,23 +144,23 @@ module _ {F : Type 0} {o : Ops F} (l : Laws o) where
         ∙ sym (Evaluation.eval_plus l a q.q0 (times o (times o q.q1 σ) f) b ∙ ap (λ w. eval o a q.q0 b + w) (Multiplication.product_applies l a (times o q.q1 σ) f b))
 
     -- At all spots of a block.
-    at_points : (a : F) (es bs ys : List F) → length bs ≡ length ys → All (Null q) (points_at o a σ bs ys)
-        → All (Spanned o es) (map (rest_of a) (plus o ys (map neg (map (eval o a f) bs)))) → All (λ b. Spanned o es (eval o a (joint q σ f) b)) bs
+    at_points : (a : F) (es bs ys : List F) → length bs ≡ length ys → AllByRecursion (Null q) (points_at o a σ bs ys)
+        → AllByRecursion (Spanned o es) (map (rest_of a) (plus o ys (map neg (map (eval o a f) bs)))) → AllByRecursion (λ b. Spanned o es (eval o a (joint q σ f) b)) bs
     at_points a es [] ys e z h = tt
     at_points a es (b ∷ bs) [] e z h = absurd (omega arith)
     at_points a es (b ∷ bs) (y ∷ ys) e z h = (subst (Spanned o es) (at_point a b y z.0) h.0, at_points a es bs ys (omega arith) z.1 h.1)
 
     -- In one block.
-    at_site : (m : List Bool) (s : Site F) (p : Parts F) (r : ℕ) → ReducedSite o m s → All (λ u. eval o s.parameter σ u ≡ zero) s.given.rows
-        → Splits o s.given (difference o f s) p → IsRank o p.full r → All (Null q) (points_at o s.parameter σ (left_locators o m s) (left_symbols o m s))
-        → (es : List F) × (length es ≡ r) × All (λ b. Spanned o es (eval o s.parameter (joint q σ f) b)) (left_locators o m s)
+    at_site : (m : List Bool) (s : Site F) (p : Parts F) (r : ℕ) → ReducedSite o m s → AllByRecursion (λ u. eval o s.parameter σ u ≡ zero) s.given.rows
+        → Splits o s.given (difference o f s) p → IsRank o p.full r → AllByRecursion (Null q) (points_at o s.parameter σ (left_locators o m s) (left_symbols o m s))
+        → (es : List F) × (length es ≡ r) × AllByRecursion (λ b. Spanned o es (eval o s.parameter (joint q σ f) b)) (left_locators o m s)
     at_site m s p r red kills P R z =
         (map T E.0, length-map E.0 T ∙ E.1, at_points s.parameter (map T E.0) (left_locators o m s) (left_symbols o m s) lengths z all)
       where
         T : F → F
         T = rest_of s.parameter
 
-        E : (es : List F) × (length es ≡ r) × All (Spanned o es) p.full
+        E : (es : List F) × (length es ≡ r) × AllByRecursion (Spanned o es) p.full
         E = Spans.rank_spans l p.full r R
 
         at : F → F
@@ -172,7 +172,7 @@ module _ {F : Type 0} {o : Ops F} (l : Laws o) where
         n : ℕ
         n = length s.locators
 
-        fixed : All (All (Fixed o)) s.given.columns
+        fixed : AllByRecursion (AllByRecursion (Fixed o)) s.given.columns
         fixed = Inserting.fixed_list l hs n red.form.rows
 
         length_values : (v : List F) → length (map neg (map (eval o s.parameter f) v)) ≡ length v
@@ -203,16 +203,16 @@ module _ {F : Type 0} {o : Ops F} (l : Laws o) where
         reduced : Reduced o (length (difference o f s)) m s.given.columns
         reduced = subst (λ i. Reduced o i m s.given.columns) (sym (length_difference f s red.size)) red.form
 
-        all : All (Spanned o (map (rest_of s.parameter) E.0)) (map (rest_of s.parameter) (plus o (left_symbols o m s) (map neg (map (eval o s.parameter f) (left_locators o m s)))))
+        all : AllByRecursion (Spanned o (map (rest_of s.parameter) E.0)) (map (rest_of s.parameter) (plus o (left_symbols o m s) (map neg (map (eval o s.parameter f) (left_locators o m s)))))
         all =
-            subst (All (Spanned o (map T E.0))) (omit_map T m (clear o m hs (difference o f s)) ∙ ap (map T) cut_down)
+            subst (AllByRecursion (Spanned o (map T E.0))) (omit_map T m (clear o m hs (difference o f s)) ∙ ap (map T) cut_down)
             (all_omit (Spanned o (map T E.0)) m (map T (clear o m hs (difference o f s)))
             (left_over T (rest_linear s.parameter) m s.given (difference o f s) p E.0 reduced (rest_rows s.parameter s.given.rows kills) P E.2))
 
     -- In all blocks.
     pub at_sites : (marks : List (List Bool)) (sites : List (Site F)) (ps : List (Parts F)) (t : ℕ) → AllReduced o marks sites
-        → All (λ s. All (λ u. eval o s.parameter σ u ≡ zero) s.given.rows) sites → Splitting o (givens sites) (differences o f sites) ps → Weighs o (full_part ps) t
-        → All (Null q) (all_points o σ marks sites)
+        → AllByRecursion (λ s. AllByRecursion (λ u. eval o s.parameter σ u ≡ zero) s.given.rows) sites → Splitting o (givens sites) (differences o f sites) ps → Weighs o (full_part ps) t
+        → AllByRecursion (Null q) (all_points o σ marks sites)
         → (spans : List (List F)) × (together spans ≡ t) × Separating.Within l (joint q σ f) (left_code o marks sites) spans
     at_sites [] [] [] t red kills P R z = ([], sym R, tt)
     at_sites [] [] (p ∷ ps) t red kills P R z = absurd P

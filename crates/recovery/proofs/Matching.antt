@@ -4,7 +4,7 @@
 use Rattle.std.proofs.Common.{◌≡◌, ℕ, suc, ◌+◌, ◌<◌, ◌≤◌, Bool, true, false, List, [], ◌∷◌, ◌++◌, map, length, get_or, take, drop, sym, refl, ap, ◌∙◌, subst, ap₂, arith, length-append}
 use Rattle.std.proofs.lemmas.List.{length-map}
 use Rattle.std.proofs.lemmas.List.{take-map, drop-map, length-drop, length-take-le}
-use Rattle.fields.specs.Lists.{All}
+use Rattle.std.specs.List.{AllByRecursion}
 use Rattle.fields.specs.Field as field
 use Rattle.fields.specs.Meaning.{Meaning, Laws}
 use Rattle.fields.specs.Elements.{Elem, elem, elems, ops}
@@ -133,15 +133,15 @@ module _ {m : Meaning} (l : Laws m) where
       ∙ ap₂ ◌+◌ (length-map {B = Elem m × Elem m} (rows_of m b.rows) (λ h. (parameter_of m ps, from_digits m h)) ∙ sym (length-map (rows_of m b.rows) (from_digits m))) (length_hint_points ns bs (drop n ps))
 
   -- A polynomial that vanishes at the points of a block's row hints vanishes at the row hints.
-  row_zeros : (f : List (Elem m)) (a : Elem m) (hs : List (List (Elem m))) → All (Vanishes (ops m) f) (hint_points m a hs) → All (λ u. eval (ops m) a f u ≡ (ops m).zero) (map (from_digits m) hs)
+  row_zeros : (f : List (Elem m)) (a : Elem m) (hs : List (List (Elem m))) → AllByRecursion (Vanishes (ops m) f) (hint_points m a hs) → AllByRecursion (λ u. eval (ops m) a f u ≡ (ops m).zero) (map (from_digits m) hs)
   row_zeros f a [] h = tt
   row_zeros f a (r ∷ hs) h = (eval_value laws a f (from_digits m r) ∙ h.0, row_zeros f a hs h.1)
 
   -- In all blocks.
   pub zeros_are : (f : List (Elem m)) (blocks : List (Block (Elem m))) (ns : List ℕ) (bs : List BlockHints) (gs : List (Given (Elem m))) (ps : List Point) (w : List (Elem m))
       → map block_size blocks ≡ ns → places m ps ≡ points blocks → length ns ≤ length bs → length gs ≡ length ns → HeldAll m ns bs gs
-      → All (Vanishes (ops m) f) (all_hint_points m ns bs ps)
-      → All (λ s. All (λ u. eval (ops m) s.parameter f u ≡ (ops m).zero) s.given.rows) (sited blocks (cut ns w) (all_shown m ns bs))
+      → AllByRecursion (Vanishes (ops m) f) (all_hint_points m ns bs ps)
+      → AllByRecursion (λ s. AllByRecursion (λ u. eval (ops m) s.parameter f u ≡ (ops m).zero) s.given.rows) (sited blocks (cut ns w) (all_shown m ns bs))
   zeros_are f [] ns bs gs ps w e ep hb hg held h = tt
   zeros_are f (b ∷ blocks) [] bs gs ps w e ep hb hg held h = absurd (omega (arith, ap length e))
   zeros_are f (block a locs ∷ blocks) (n ∷ ns) [] gs ps w e ep hb hg held h = absurd (omega arith)
@@ -151,7 +151,7 @@ module _ {m : Meaning} (l : Laws m) where
       let some : 1 ≤ n = (held 0 (omega arith)).0 in
       let here = hint_points m (parameter_of m ps) (rows_of m b.rows) in
       let rest = all_hint_points m ns bs (drop n ps) in (
-        subst (λ x. All (λ u. eval (ops m) x f u ≡ (ops m).zero) (map (from_digits m) (rows_of m b.rows))) (Siting.first_parameter m a locs blocks ps (omega arith) ep)
+        subst (λ x. AllByRecursion (λ u. eval (ops m) x f u ≡ (ops m).zero) (map (from_digits m) (rows_of m b.rows))) (Siting.first_parameter m a locs blocks ps (omega arith) ep)
             (row_zeros f (parameter_of m ps) (rows_of m b.rows) (all_left (Vanishes (ops m) f) here rest h)),
         zeros_are f blocks ns bs gs (drop n ps) (drop n w) (ap (drop 1) e) (ap (λ j. places m (drop j ps)) (sym size) ∙ (Siting.first_block m a locs blocks ps ep).1) (omega arith) (omega arith) (λ i k. held (suc i) (omega (arith, k)))
             (all_right (Vanishes (ops m) f) here rest h),

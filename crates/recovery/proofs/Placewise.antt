@@ -1,7 +1,7 @@
 -- Lists of elements under sums and linear maps, place by place, and what spans them.
 use Rattle.std.proofs.Common.{◌≡◌, ℕ, suc, List, [], ◌∷◌, map, sym, refl, ap, ◌∙◌, subst}
 use Rattle.std.proofs.lemmas.List.{length-map}
-use Rattle.fields.specs.Lists.{All}
+use Rattle.std.specs.List.{AllByRecursion}
 use Rattle.fields.specs.Field.{Ops, Laws, Fixed, plus, comb}
 use Rattle.fields.specs.Basics
 use Rattle.fields.specs.Basics.{ring}
@@ -58,30 +58,30 @@ module _ {F : Type 0} {o : Ops F} (l : Laws o) where
   comb_neg (c ∷ cs) (e ∷ es) = ap (λ w. neg c * e + w) (comb_neg cs es) ∙ simp (ring, l)
 
   -- A sum of fixed rows times images is the image of the sum.
-  pub mix_map : (T : F → F) → Evaluation.Linear l T → (n : ℕ) (hs : List (List F)) (xs : List F) → All (All (Fixed o)) hs → mix o n hs (map T xs) ≡ map T (mix o n hs xs)
+  pub mix_map : (T : F → F) → Evaluation.Linear l T → (n : ℕ) (hs : List (List F)) (xs : List F) → AllByRecursion (AllByRecursion (Fixed o)) hs → mix o n hs (map T xs) ≡ map T (mix o n hs xs)
   mix_map T L ℕ.zero hs xs k = refl
   mix_map T L (suc n) hs xs k =
       cons_path (Evaluation.comb_map l T L (heads o hs) xs (Mixing.fixed_heads l hs k)) (mix_map T L n (tails o hs) xs (Mixing.fixed_tails l hs k))
 
   -- The elements of a sum are spanned by what spans both.
-  pub all_sum : (es us vs : List F) → All (Spanned o es) us → All (Spanned o es) vs → All (Spanned o es) (plus o us vs)
+  pub all_sum : (es us vs : List F) → AllByRecursion (Spanned o es) us → AllByRecursion (Spanned o es) vs → AllByRecursion (Spanned o es) (plus o us vs)
   all_sum es [] vs h k = k
   all_sum es (u ∷ us) [] h k = h
   all_sum es (u ∷ us) (v ∷ vs) h k = (Spans.spanned_add l es u v h.0 k.0, all_sum es us vs h.1 k.1)
 
   -- Opposites are spanned.
-  pub all_neg : (es us : List F) → All (Spanned o es) us → All (Spanned o es) (map neg us)
+  pub all_neg : (es us : List F) → AllByRecursion (Spanned o es) us → AllByRecursion (Spanned o es) (map neg us)
   all_neg es [] h = tt
   all_neg es (u ∷ us) h = (subst (Spanned o es) (one_less u) (Spans.spanned_scale l es (neg one) u (Basics.fixed_neg l one (Basics.fixed_one l)) h.0), all_neg es us h.1)
 
   -- Sums of fixed rows times spanned elements are spanned.
-  pub all_mix : (n : ℕ) (hs : List (List F)) (es ps : List F) → All (All (Fixed o)) hs → All (Spanned o es) ps → All (Spanned o es) (mix o n hs ps)
+  pub all_mix : (n : ℕ) (hs : List (List F)) (es ps : List F) → AllByRecursion (AllByRecursion (Fixed o)) hs → AllByRecursion (Spanned o es) ps → AllByRecursion (Spanned o es) (mix o n hs ps)
   all_mix ℕ.zero hs es ps k h = tt
   all_mix (suc n) hs es ps k h =
       (Spans.spanned_comb l es (heads o hs) ps (Mixing.fixed_heads l hs k) h, all_mix n (tails o hs) es ps (Mixing.fixed_tails l hs k) h)
 
   -- Images under a linear map are spanned by the images.
-  pub all_image : (T : F → F) → Evaluation.Linear l T → (es v : List F) → All (Spanned o es) v → All (Spanned o (map T es)) (map T v)
+  pub all_image : (T : F → F) → Evaluation.Linear l T → (es v : List F) → AllByRecursion (Spanned o es) v → AllByRecursion (Spanned o (map T es)) (map T v)
   all_image T L es [] h = tt
   all_image T L es (x ∷ v) h = (
     (h.0.0, h.0.1 ∙ sym (length-map es T), h.0.2, ap T h.0.3 ∙ sym (Evaluation.comb_map l T L h.0.0 es h.0.2)),
@@ -89,6 +89,6 @@ module _ {F : Type 0} {o : Ops F} (l : Laws o) where
   )
 
   -- Elements that a map takes to zero have spanned images.
-  pub none_image : (T : F → F) (P : F → Type 0) → ((x : F) → P x → T x ≡ zero) → (es v : List F) → All P v → All (Spanned o es) (map T v)
+  pub none_image : (T : F → F) (P : F → Type 0) → ((x : F) → P x → T x ≡ zero) → (es v : List F) → AllByRecursion P v → AllByRecursion (Spanned o es) (map T v)
   none_image T P z es [] h = tt
   none_image T P z es (x ∷ v) h = (subst (Spanned o es) (sym (z x h.0)) (Spans.spanned_zero l es), none_image T P z es v h.1)

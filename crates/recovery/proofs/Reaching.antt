@@ -8,7 +8,7 @@ use Rattle.std.proofs.Common.{◌≡◌, ℕ, ◌+◌, ◌-◌, ◌≤◌, List,
 use Rattle.std.proofs.lemmas.List.{length-map, length-replicate}
 use Rattle.std.proofs.lemmas.List.{get_or_past, length-drop, length-take-le, take-map}
 use Rattle.std.proofs.lemmas.Bool.{cases_lt}
-use Rattle.fields.specs.Lists.{All}
+use Rattle.std.specs.List.{AllByRecursion}
 use Rattle.fields.specs.Field.{Ops, plus, scale}
 use Rattle.fields.specs.Field as field
 use Rattle.fields.specs.Meaning.{Meaning, Laws, clip}
@@ -154,7 +154,7 @@ module _ {m : Meaning} (l : Laws m) where
             subst (λ ss. Carried (ops m) c.dimension ss first second (t.a + c.dimension) t.b) (sym (Turning.spots_parts c.dimension (pts m c) (elems m w)))
             (Reencoding.reencoded laws c.dimension begin (drop c.dimension all) top (elems m near) (two m t.first) (two m t.second) t.a t.b
             (times (ops m) (two m t.first).q0 top) (times (ops m) (two m t.first).q1 (elems m near)) (elems m left) right length_begin
-            (subst (All (Met (ops m) top (elems m near)))
+            (subst (AllByRecursion (Met (ops m) top (elems m near)))
             (ap₂ word_spots (sym (take-map (place m) c.dimension (stops c.course))) (sym (take-map (elem m) c.dimension w)))
             (Turning.all_met m top (elems m near) (take c.dimension (stops c.course)) (take c.dimension w) prepares.vanishes reads.has))
             prepares.degree (λ i h. get_or_past (elems m near) i (ops m).zero (omega (arith, h, length-map near (elem m), length_near)))

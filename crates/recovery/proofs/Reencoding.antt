@@ -7,7 +7,7 @@
 --   reencoded           pairs carried through the other spots, turned, are pairs carried through all
 use Rattle.std.proofs.Common.{◌≡◌, ℕ, suc, ◌+◌ as ◌+ℕ◌, ◌≤◌, ◌≢◌, List, [], ◌∷◌, ◌++◌, map, length, sym, refl, ap, ◌∙◌, subst, arith, length-append}
 use Rattle.std.proofs.lemmas.List.{length-map}
-use Rattle.fields.specs.Lists.{All}
+use Rattle.std.specs.List.{AllByRecursion}
 use Rattle.fields.specs.Field.{Ops, Laws, plus, scale}
 use Rattle.fields.specs.Basics
 use Rattle.fields.specs.Basics.{ring}
@@ -148,8 +148,8 @@ module _ {F : Type 0} {o : Ops F} (l : Laws o) where
             (Evaluation.eval_add l a v x (neg y) ∙ ap (λ w. eval o a v x + w) (Placewise.linear_neg l (eval o a v) (Evaluation.eval_linear l a v) y))
 
     -- So it vanishes at all spots.
-    at_all : (first others : List (Spot F)) → All (Met o M f) first → All (λ s. worth o (record { q0 = u; q1 = v }) s ≡ zero) (map (turned o M f) others)
-        → All (λ s. worth o (joined o p q v) s ≡ zero) (first ++ others)
+    at_all : (first others : List (Spot F)) → AllByRecursion (Met o M f) first → AllByRecursion (λ s. worth o (record { q0 = u; q1 = v }) s ≡ zero) (map (turned o M f) others)
+        → AllByRecursion (λ s. worth o (joined o p q v) s ≡ zero) (first ++ others)
     at_all first others h g =
         all_append (λ s. worth o (joined o p q v) s ≡ zero) first others (all_so (Met o M f) (λ s. worth o (joined o p q v) s ≡ zero) at_met first h)
         (all_so (λ s. worth o (record { q0 = u; q1 = v }) (turned o M f s) ≡ zero) (λ s. worth o (joined o p q v) s ≡ zero) at_turned others
@@ -157,7 +157,7 @@ module _ {F : Type 0} {o : Ops F} (l : Laws o) where
 
   -- Pairs carried through the other spots, turned, are pairs carried through all.
   pub reencoded : (k : ℕ) (first others : List (Spot F)) (M f : List F) (A B : Two F) (a b : ℕ) (p q p' q' : List F)
-      → length first ≡ k → All (Met o M f) first → Degree o M k → Below o k f → Carried o 0 (map (turned o M f) others) A B a b
+      → length first ≡ k → AllByRecursion (Met o M f) first → Degree o M k → Below o k f → Carried o 0 (map (turned o M f) others) A B a b
       → Product o A.q0 M p → Product o A.q1 f q → Product o B.q0 M p' → Product o B.q1 f q'
       → Carried o k (first ++ others) (joined o p q A.q1) (joined o p' q' B.q1) (a +ℕ k) b
   reencoded k first others M f A B a b p q p' q' size met top short h pA qA pB qB = record {

@@ -10,7 +10,7 @@
 --   points_at, all_points          each locator that is left, with the value of σ at its symbol
 --   Annihilates o σ sites          σ vanishes at each row hint, is not zero, and has at most one coefficient more than there are row hints
 use Rattle.std.proofs.Common.{◌≡◌, suc, Bool, true, false, List, [], ◌∷◌, ◌++◌, map, length}
-use Rattle.fields.specs.Lists.{All}
+use Rattle.std.specs.List.{AllByRecursion}
 use Rattle.fields.specs.Field.{Ops, Zero, plus}
 use Rattle.skew.specs.Values.{eval}
 use Rattle.skew.specs.Products.{Below}
@@ -78,4 +78,4 @@ module _ {F : Type 0} (o : Ops F) where
 
   abbrev pub Annihilates : List F → List (Site F) → Type 0
   Annihilates σ sites =
-      Below o (suc (row_count (givens sites))) σ × (¬ All (Zero o) σ) × All (λ s. All (λ u. eval o s.parameter σ u ≡ o.zero) s.given.rows) sites
+      Below o (suc (row_count (givens sites))) σ × (¬ AllByRecursion (Zero o) σ) × AllByRecursion (λ s. AllByRecursion (λ u. eval o s.parameter σ u ≡ o.zero) s.given.rows) sites

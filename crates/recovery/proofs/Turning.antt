@@ -4,7 +4,7 @@
 use Rattle.std.proofs.Common.{◌≡◌, ℕ, suc, ◌+◌, ◌<◌, ◌≤◌, List, [], ◌∷◌, ◌++◌, map, length, get_or, take, drop, sym, refl, ap, ◌∙◌, ap₂, append_assoc, append-nil, arith, length-append}
 use Rattle.std.proofs.lemmas.List.{length-map}
 use Rattle.std.proofs.lemmas.List.{get_or-map, drop_more, drop_all, take_all, length-drop, length_push, map_push}
-use Rattle.fields.specs.Lists.{All}
+use Rattle.std.specs.List.{AllByRecursion}
 use Rattle.fields.specs.Meaning.{Meaning, clip}
 use Rattle.fields.specs.Elements.{Elem, elem, elems, codes, ops}
 use Rattle.fields.proofs.Carrier
@@ -42,8 +42,8 @@ module _ (m : Meaning) where
   spot_at (p ∷ ps) (y ∷ w) (suc i) d h k = spot_at ps w i d (omega arith) (omega arith)
 
   -- Where M vanishes at points and f has their symbols, both meet.
-  pub all_met : (M f : List (Elem m)) (ps : List Point) (w : List ℕ) → All (Vanishes (ops m) M) (places m ps)
-      → ((i : ℕ) → i < length ps → at (ops m) f (place m (get_or ps i no_point)) ≡ elem m (get_or w i 0)) → All (Met (ops m) M f) (word_spots (places m ps) (elems m w))
+  pub all_met : (M f : List (Elem m)) (ps : List Point) (w : List ℕ) → AllByRecursion (Vanishes (ops m) M) (places m ps)
+      → ((i : ℕ) → i < length ps → at (ops m) f (place m (get_or ps i no_point)) ≡ elem m (get_or w i 0)) → AllByRecursion (Met (ops m) M f) (word_spots (places m ps) (elems m w))
   all_met M f [] w h g = tt
   all_met M f (p ∷ ps) [] h g = tt
   all_met M f (p ∷ ps) (y ∷ w) h g = ((h.0, g 0 (omega arith)), all_met M f ps w h.1 (λ i k. g (suc i) (omega arith)))

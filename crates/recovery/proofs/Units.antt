@@ -7,7 +7,7 @@ use Rattle.std.proofs.Common.{◌≡◌, ℕ, ◌+◌, ◌-◌, ◌<◌, ◌≤�
 use Rattle.std.proofs.lemmas.List.{length-map}
 use Rattle.std.proofs.lemmas.List.{get_or-map, get_or-take, get_or-set_same, get_or-set_other, get_or-replicate, get_or_past, length-take-le, length-replicate, take-map}
 use Rattle.std.proofs.lemmas.Bool.{cases_lt}
-use Rattle.fields.specs.Lists.{All}
+use Rattle.std.specs.List.{AllByRecursion}
 use Rattle.fields.specs.Field as field
 use Rattle.fields.specs.Meaning.{Meaning, Laws}
 use Rattle.fields.specs.Elements.{Elem, elem, elems, codes, ops}
@@ -184,7 +184,7 @@ module _ {m : Meaning} (l : Laws m) where
             Sharpness.monic_seen laws (places m first) (elems m f)
             (subst (Sharpness.Sharp (ops m)) grouped_first (Sharpness.sharp_lawful laws (first_blocks c.dimension law.blocks) (FirstPoints.lawful_first laws c.dimension law.blocks law.lawful)))
             kills.annihilator.monic (omega (arith, h, kills.annihilator.monic.1, count))
-            (subst (λ v. All (λ (t : Elem m × Elem m). v t.0 (elems m f) t.1 ≡ (ops m).zero) (places m first)) (sym (Evaluation.both_values laws)) kills.annihilator.vanishes)
+            (subst (λ v. AllByRecursion (λ (t : Elem m × Elem m). v t.0 (elems m f) t.1 ≡ (ops m).zero) (places m first)) (sym (Evaluation.both_values laws)) kills.annihilator.vanishes)
 
         exact : kills.annihilator.monic.0 ≡ c.dimension → Degree (ops m) (elems m f) c.dimension
         exact e = (

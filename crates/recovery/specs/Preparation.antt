@@ -8,7 +8,7 @@
 --   Prepares m c p          what p holds belongs to the code c of dimension k: a polynomial of degree k that vanishes at the first k points,
 --                           its values at all points, and the polynomials that are one at one of the first k
 use Rattle.std.specs.Prelude.{◌≡◌, ℕ, suc, ◌<◌, ◌≤◌, ◌≢◌, List, [], ◌∷◌, map, length, take, slice_index, slice_index_or}
-use Rattle.fields.specs.Lists.{All}
+use Rattle.std.specs.List.{AllByRecursion}
 use Rattle.fields.specs.Field.{Ops}
 use Rattle.fields.specs.Meaning.{Meaning}
 use Rattle.fields.specs.Elements.{elem, elems, codes, ops}
@@ -52,6 +52,6 @@ pub record Rebuilt (m : Meaning) (ps : List Point) (ys f : List ℕ) : Type 0 wh
 pub record Prepares (m : Meaning) (c : Code) (p : Prepared) : Type 0 where
   pub degree : Degree (ops m) (elems m (coefficients p.top)) c.dimension
   pub size : length (coefficients p.top) ≤ suc c.dimension
-  pub vanishes : All (Vanishes (ops m) (elems m (coefficients p.top))) (places m (take c.dimension (stops c.course)))
+  pub vanishes : AllByRecursion (Vanishes (ops m) (elems m (coefficients p.top))) (places m (take c.dimension (stops c.course)))
   pub values : held p.values ≡ codes (word_of m c (elems m (coefficients p.top)))
   pub units : Units m (take c.dimension (stops c.course)) (map coefficients p.units)

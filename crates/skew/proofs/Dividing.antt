@@ -11,7 +11,7 @@ use Rattle.std.proofs.lemmas.List.{length-map}
 use Rattle.std.proofs.Math.ListN.{get_or-eq_default}
 use Rattle.std.proofs.lemmas.List.{get_or-take, get_or_past, length-take, length_push}
 use Rattle.std.proofs.lemmas.Bool.{cases_lt}
-use Rattle.fields.specs.Lists.{All}
+use Rattle.std.specs.List.{AllByRecursion}
 use Rattle.fields.specs.Field.{Zero}
 use Rattle.fields.specs.Field as field
 use Rattle.fields.specs.Meaning.{Meaning, Laws, Code, clip, inverted}
@@ -120,7 +120,7 @@ module _ {m : Meaning} (l : Laws m) where
       record { degree = ((λ z. n.0 (e ∙ z)), λ k g. h.null k (omega arith)); inverse = n.1 ∙ ap (ops m).inv e }
 
   -- With no such coefficient the polynomial is zero.
-  pub leading_none : {f : List ℕ} {i : ℕ} → i ≤ 0 → Clear m f i → All (Zero (ops m)) (elems m f)
+  pub leading_none : {f : List ℕ} {i : ℕ} → i ≤ 0 → Clear m f i → AllByRecursion (Zero (ops m)) (elems m f)
   leading_none {f} {i} e h = Multiplication.of_coef laws (elems m f) (λ k. h.null k (omega arith))
 
   -- Before the first turn.

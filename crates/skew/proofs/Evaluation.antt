@@ -3,7 +3,7 @@
 --   Linear T     T keeps sums, and products with a fixed element
 use Rattle.std.proofs.Common.{◌≡◌, ℕ, suc, List, [], ◌∷◌, map, sym, refl, ap, ◌∙◌}
 use Rattle.std.proofs.Math.Path.{fun_ext}
-use Rattle.fields.specs.Lists.{All}
+use Rattle.std.specs.List.{AllByRecursion}
 use Rattle.fields.specs.Field.{Ops, Laws, Fixed, plus, scale, comb}
 use Rattle.fields.specs.Basics
 use Rattle.fields.specs.Basics.{ring, twists}
@@ -81,7 +81,7 @@ module _ {F : Type 0} {o : Ops F} (l : Laws o) where
       ap T (sym (Basics.zero_mul l zero)) ∙ L.1 zero zero (Basics.fixed_zero l) ∙ Basics.zero_mul l (T zero)
 
   -- A linear map goes inside a combination with fixed coefficients.
-  pub comb_map : (T : F → F) → Linear T → (cs bs : List F) → All (Fixed o) cs → comb o cs (map T bs) ≡ T (comb o cs bs)
+  pub comb_map : (T : F → F) → Linear T → (cs bs : List F) → AllByRecursion (Fixed o) cs → comb o cs (map T bs) ≡ T (comb o cs bs)
   comb_map T L [] bs p = sym (linear_zero T L)
   comb_map T L (c ∷ cs) [] p = sym (linear_zero T L)
   comb_map T L (c ∷ cs) (b ∷ bs) p =

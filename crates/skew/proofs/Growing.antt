@@ -5,7 +5,7 @@ use Rattle.std.proofs.Common.{◌≡◌, ℕ, suc, ◌+◌, ◌<◌, ◌≤◌, 
 use Rattle.std.proofs.lemmas.List.{length-map}
 use Rattle.std.proofs.lemmas.List.{take_more, take_all, map-append, length_push, length-take-le}
 use Rattle.std.proofs.lemmas.Bool.{ltb-true, ltb-false, cond-true}
-use Rattle.fields.specs.Lists.{All}
+use Rattle.std.specs.List.{AllByRecursion}
 use Rattle.fields.specs.Field as field
 use Rattle.fields.specs.Meaning.{Meaning, Laws, clip, inverted}
 use Rattle.fields.specs.Elements.{Elem, element, elem, elems, codes, ops}
@@ -27,7 +27,7 @@ pub record Growing (m : Meaning) (ps : List Point) (f : List ℕ) : Type 0 where
   pub proper : Codes m f
   pub monic : Monic (ops m) (elems m f)
   pub degree : length f ≤ suc (length ps)
-  pub vanishes : All (Vanishes (ops m) (elems m f)) (places m ps)
+  pub vanishes : AllByRecursion (Vanishes (ops m) (elems m f)) (places m ps)
 
 -- What a choice between a value and none says where it is a value.
 some_of : (b : Bool) (x i : ℕ) → Some i ≡ cond b (Some x) None → (b ≡ true) × (i ≡ x)
@@ -142,8 +142,8 @@ module _ {m : Meaning} (l : Laws m) where
   annihilator_goes_on d ps {i} {out} {out'} h a r =
       let p = get_or ps i d in
       let V : Elem m × Elem m → Type 0 = Vanishes (ops m) (elems m out') in
-      let old : All V (places m (take i ps)) = all_so (Vanishes (ops m) (elems m out)) V r.keeps (places m (take i ps)) a.vanishes in
-      let new : All V (places m (take i ps ++ p ∷ [])) = subst (All V) (sym (map-append (place m) (take i ps) (p ∷ []))) (all_append V (places m (take i ps)) (place m p ∷ []) old (r.there, tt)) in
+      let old : AllByRecursion V (places m (take i ps)) = all_so (Vanishes (ops m) (elems m out)) V r.keeps (places m (take i ps)) a.vanishes in
+      let new : AllByRecursion V (places m (take i ps ++ p ∷ [])) = subst (AllByRecursion V) (sym (map-append (place m) (take i ps) (p ∷ []))) (all_append V (places m (take i ps)) (place m p ∷ []) old (r.there, tt)) in
       let k : length (take i ps ++ p ∷ []) ≡ suc (length (take i ps)) = length_push (take i ps) p ∙ omega arith in
       subst (λ qs. Growing m qs out') (sym (take_more ps i d h))
       (record { proper = r.proper a.proper; monic = r.monic a.monic; degree = omega (arith, r.size, a.degree); vanishes = new })
@@ -160,5 +160,5 @@ module _ {m : Meaning} (l : Laws m) where
         room = few;
         proper = a.proper;
         annihilator = Vanishing.is_annihilator laws (places m ps) (elems m out) a.monic (omega (arith, a.degree, length-map out (elem m), length-map {B = Elem m × Elem m} ps (place m)))
-            (subst (λ v. All (λ t. v t.0 (elems m out) t.1 ≡ (ops m).zero) (places m ps)) (sym both) a.vanishes);
+            (subst (λ v. AllByRecursion (λ t. v t.0 (elems m out) t.1 ≡ (ops m).zero) (places m ps)) (sym both) a.vanishes);
       }

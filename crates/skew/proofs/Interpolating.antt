@@ -4,7 +4,7 @@
 use Rattle.std.proofs.Common.{◌≡◌, ℕ, ◌+◌, ◌<◌, ◌≤◌, ◌≢◌, List, [], ◌∷◌, ◌++◌, map, length, get_or, take, drop, set, replicate, ◌⊎◌, Option, MatchOption, Some, None, sym, refl, ap, ◌∙◌, subst, inl, inr, arith, length-set, take-append-drop}
 use Rattle.std.proofs.lemmas.List.{length-map}
 use Rattle.std.proofs.lemmas.List.{take_more, take_all, map-append, length-take-le, take-replicate, length-replicate}
-use Rattle.fields.specs.Lists.{All}
+use Rattle.std.specs.List.{AllByRecursion}
 use Rattle.fields.specs.Field.{plus, scale}
 use Rattle.fields.specs.Field as field
 use Rattle.fields.specs.Meaning.{Meaning, Laws, clip, inverted}
@@ -36,7 +36,7 @@ pub record Stepping (m : Meaning) (ps : List Point) (vs : List ℕ) (i : ℕ) (f
   pub base : Growing m (take i ps) g
 
 -- Maps that agree at each element of a list.
-map_same : {A B : Type 0} (h k : A → B) (xs : List A) → All (λ x. h x ≡ k x) xs → map h xs ≡ map k xs
+map_same : {A B : Type 0} (h k : A → B) (xs : List A) → AllByRecursion (λ x. h x ≡ k x) xs → map h xs ≡ map k xs
 map_same h k [] e = refl
 map_same h k (x ∷ xs) e = Sums.cons_path e.0 (map_same h k xs e.1)
 
@@ -163,7 +163,7 @@ module _ {m : Meaning} (l : Laws m) where
         base = annihilator_goes_on l d ps h s.base r;
       }
     where
-      all_kept : (ts : List (Elem m × Elem m)) → All (Vanishes (ops m) (elems m g)) ts → All (λ t. at (ops m) (elems m f') t ≡ at (ops m) (elems m f) t) ts
+      all_kept : (ts : List (Elem m × Elem m)) → AllByRecursion (Vanishes (ops m) (elems m g)) ts → AllByRecursion (λ t. at (ops m) (elems m f') t ≡ at (ops m) (elems m f) t) ts
       all_kept [] v = tt
       all_kept (t ∷ ts) v = (k.keeps t v.0, all_kept ts v.1)
 
@@ -172,16 +172,16 @@ module _ {m : Meaning} (l : Laws m) where
   newton_stops d ps vs {i} {f} {g} h s z blocks e law =
       Sharpness.monic_seen laws (places m (take (i + 1) ps)) (elems m g) sharp s.base.monic
       (omega (arith, length-map g (elem m), s.base.degree, length-map {B = Elem m × Elem m} (take (i + 1) ps) (place m), length-take-le i ps (omega arith), length-take-le (i + 1) ps (omega arith)))
-      (subst (λ v. All (λ t. v t.0 (elems m g) t.1 ≡ (ops m).zero) (places m (take (i + 1) ps))) (sym both) seen)
+      (subst (λ v. AllByRecursion (λ t. v t.0 (elems m g) t.1 ≡ (ops m).zero) (places m (take (i + 1) ps))) (sym both) seen)
     where
       sharp : Sharp (ops m) (places m (take (i + 1) ps))
       sharp =
           Sharpness.sharp_left laws (places m (take (i + 1) ps)) (places m (drop (i + 1) ps))
           (subst (Sharp (ops m)) (e ∙ ap (places m) (sym (take-append-drop (i + 1) ps)) ∙ map-append (place m) (take (i + 1) ps) (drop (i + 1) ps)) (Sharpness.sharp_lawful laws blocks law))
 
-      seen : All (Vanishes (ops m) (elems m g)) (places m (take (i + 1) ps))
+      seen : AllByRecursion (Vanishes (ops m) (elems m g)) (places m (take (i + 1) ps))
       seen =
-          subst (All (Vanishes (ops m) (elems m g))) (sym (ap (places m) (take_more ps i d h) ∙ map-append (place m) (take i ps) (get_or ps i d ∷ [])))
+          subst (AllByRecursion (Vanishes (ops m) (elems m g))) (sym (ap (places m) (take_more ps i d h) ∙ map-append (place m) (take i ps) (get_or ps i d ∷ [])))
           (all_append (Vanishes (ops m) (elems m g)) (places m (take i ps)) (place m (get_or ps i d) ∷ []) s.base.vanishes (z, tt))
 
   -- After the last point; lawful points tell polynomials apart.

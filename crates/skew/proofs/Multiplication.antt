@@ -5,7 +5,7 @@
 --   times f g    the product: c × g, and for the other coefficients of f the product with x times g
 use Rattle.std.proofs.Common.{◌≡◌, ℕ, suc, ◌+◌ as ◌+ℕ◌, ◌-◌, ◌<◌, ◌≤◌, ◌≢◌, List, [], ◌∷◌, map, length, sym, refl, ap, ◌∙◌, subst, arith}
 use Rattle.std.proofs.lemmas.List.{length-map}
-use Rattle.fields.specs.Lists.{All}
+use Rattle.std.specs.List.{AllByRecursion}
 use Rattle.fields.specs.Field.{Ops, Laws, Zero, plus, scale}
 use Rattle.fields.specs.Basics
 use Rattle.fields.specs.Basics.{ring, twists}
@@ -50,13 +50,13 @@ module _ {F : Type 0} {o : Ops F} (l : Laws o) where
       ∙ ap (λ w. c * eval o a g b + w) (product_applies a f (shift o g) b ∙ ap (eval o a f) (eval_shift a g b))
 
   -- Coefficients.
-  pub coef_of : (f : List F) → All (Zero o) f → (i : ℕ) → coef o f i ≡ zero
+  pub coef_of : (f : List F) → AllByRecursion (Zero o) f → (i : ℕ) → coef o f i ≡ zero
   coef_of [] h i = refl
   coef_of (x ∷ f) h ℕ.zero = h.0
   coef_of (x ∷ f) h (suc i) = coef_of f h.1 i
 
   -- And the other way.
-  pub of_coef : (f : List F) → ((i : ℕ) → coef o f i ≡ zero) → All (Zero o) f
+  pub of_coef : (f : List F) → ((i : ℕ) → coef o f i ≡ zero) → AllByRecursion (Zero o) f
   of_coef [] h = tt
   of_coef (x ∷ f) h = (h 0, of_coef f (λ i. h (suc i)))
 
@@ -102,7 +102,7 @@ module _ {F : Type 0} {o : Ops F} (l : Laws o) where
       ∙ sym (coef_times c f g i)
 
   -- where the lowest coefficient of f is not zero
-  no_divisors_low : (c : F) (f : List F) → c ≢ zero → (g : List F) → ((i : ℕ) → coef o (times o (c ∷ f) g) i ≡ zero) → All (Zero o) g
+  no_divisors_low : (c : F) (f : List F) → c ≢ zero → (g : List F) → ((i : ℕ) → coef o (times o (c ∷ f) g) i ≡ zero) → AllByRecursion (Zero o) g
   no_divisors_low c f n [] h = tt
   no_divisors_low c f n (z ∷ g) h =
       (first, no_divisors_low c f n g (λ i. sym (raised (c ∷ f) g i) ∙ ap (λ w. coef o (times o (c ∷ f) (w ∷ g)) (suc i)) (sym first) ∙ h (suc i)))
@@ -111,12 +111,12 @@ module _ {F : Type 0} {o : Ops F} (l : Laws o) where
       first = Basics.right_zero l c z n (sym (lowest c z f g) ∙ h 0)
 
   -- What is zero once twisted is zero.
-  untwist_null : (g : List F) → All (Zero o) (map twist g) → All (Zero o) g
+  untwist_null : (g : List F) → AllByRecursion (Zero o) (map twist g) → AllByRecursion (Zero o) g
   untwist_null [] h = tt
   untwist_null (x ∷ g) h = (Basics.twist_inj l x zero (h.0 ∙ sym (Basics.twist_zero l)), untwist_null g h.1)
 
   -- The first coefficient of f that is not zero is met in time.
-  no_divisors_coef : (f g : List F) → ¬ All (Zero o) f → ((i : ℕ) → coef o (times o f g) i ≡ zero) → All (Zero o) g
+  no_divisors_coef : (f g : List F) → ¬ AllByRecursion (Zero o) f → ((i : ℕ) → coef o (times o f g) i ≡ zero) → AllByRecursion (Zero o) g
   no_divisors_coef [] g n h = absurd (n tt)
   no_divisors_coef (c ∷ f) g n h =
       elim (l.same c zero) [ yes z ↦ untwist_null g (no_divisors_coef f (shift o g) (λ m. n (z, m)) (next z)).1 | no m ↦ no_divisors_low c f m g h ]
@@ -127,7 +127,7 @@ module _ {F : Type 0} {o : Ops F} (l : Laws o) where
           ∙ ap (λ w. w + coef o (times o f (shift o g)) i) (Basics.zero_mul l _) ∙ Basics.zero_add l _) ∙ h i
 
   -- No product is zero but where a factor is.
-  pub no_divisors : (f g : List F) → ¬ All (Zero o) f → All (Zero o) (times o f g) → All (Zero o) g
+  pub no_divisors : (f g : List F) → ¬ AllByRecursion (Zero o) f → AllByRecursion (Zero o) (times o f g) → AllByRecursion (Zero o) g
   no_divisors f g n h = no_divisors_coef f g n (coef_of (times o f g) h)
 
   -- How many coefficients a product has.

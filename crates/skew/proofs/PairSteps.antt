@@ -4,7 +4,7 @@
 --   lift c q          both polynomials of a pair so multiplied
 --   cross c q d p     c times q less d times p
 use Rattle.std.proofs.Common.{◌≡◌, ℕ, suc, ◌+◌ as ◌+ℕ◌, ◌-◌, ◌<◌, ◌≤◌, ◌≢◌, ◌⊎◌, List, [], ◌∷◌, ◌++◌, sym, refl, ap, ◌∙◌, subst, inl, inr, arith, length-append}
-use Rattle.fields.specs.Lists.{All}
+use Rattle.std.specs.List.{AllByRecursion}
 use Rattle.fields.specs.Field.{Ops, Laws, plus, scale}
 use Rattle.fields.specs.Basics
 use Rattle.fields.specs.Basics.{ring, twists}
@@ -126,7 +126,7 @@ module _ {F : Type 0} {o : Ops F} (l : Laws o) where
       gather x y u v = simp (ring, l)
 
   -- At the spots so far, and at the new one.
-  lifted_old : (c : F) (q : Two F) (ps : List (Spot F)) → All (λ p. worth o q p ≡ zero) ps → All (λ p. worth o (lift o c q) p ≡ zero) ps
+  lifted_old : (c : F) (q : Two F) (ps : List (Spot F)) → AllByRecursion (λ p. worth o q p ≡ zero) ps → AllByRecursion (λ p. worth o (lift o c q) p ≡ zero) ps
   lifted_old c q [] h = tt
   lifted_old c q (p ∷ ps) h = (worth_lifted c q p ∙ ap (λ w. neg c * w + step o p.parameter w) h.0 ∙ nil p.parameter, lifted_old c q ps h.1)
     where
@@ -141,7 +141,7 @@ module _ {F : Type 0} {o : Ops F} (l : Laws o) where
       gather w = simp (ring, l)
 
   -- A sum of multiples vanishes where both do.
-  crossed_old : (c d : F) (q r : Two F) (ps : List (Spot F)) → All (λ p. worth o q p ≡ zero) ps → All (λ p. worth o r p ≡ zero) ps → All (λ p. worth o (cross o c q d r) p ≡ zero) ps
+  crossed_old : (c d : F) (q r : Two F) (ps : List (Spot F)) → AllByRecursion (λ p. worth o q p ≡ zero) ps → AllByRecursion (λ p. worth o r p ≡ zero) ps → AllByRecursion (λ p. worth o (cross o c q d r) p ≡ zero) ps
   crossed_old c d q r [] h k = tt
   crossed_old c d q r (p ∷ ps) h k = (worth_crossed c d q r p ∙ ap (λ w. c * w + neg d * worth o r p) h.0 ∙ ap (λ w. c * zero + neg d * w) k.0 ∙ simp (ring, l), crossed_old c d q r ps h.1 k.1)
 
@@ -153,7 +153,7 @@ module _ {F : Type 0} {o : Ops F} (l : Laws o) where
       gather x y = simp (ring, l)
 
   -- What vanishes at the spots so far and at one more.
-  onto : (q : Two F) (ps : List (Spot F)) (p : Spot F) → All (λ p. worth o q p ≡ zero) ps → worth o q p ≡ zero → All (λ p. worth o q p ≡ zero) (ps ++ p ∷ [])
+  onto : (q : Two F) (ps : List (Spot F)) (p : Spot F) → AllByRecursion (λ p. worth o q p ≡ zero) ps → worth o q p ≡ zero → AllByRecursion (λ p. worth o q p ≡ zero) (ps ++ p ∷ [])
   onto q ps p h e = all_append (λ p. worth o q p ≡ zero) ps (p ∷ []) h (e, tt)
 
   module _ (k : ℕ) (ps : List (Spot F)) (p : Spot F) (A B : Two F) (a b : ℕ) (h : Carried o k ps A B a b) where

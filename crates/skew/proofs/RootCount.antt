@@ -5,7 +5,7 @@
 -- lawful again, since what `less c` takes to zero is a fixed multiple of b in b's own block and makes parameters conjugate in another.
 use Rattle.std.proofs.Common.{◌≡◌, ℕ, suc, ◌≤◌, ◌≢◌, List, [], ◌∷◌, map, length, sym, refl, ap, ◌∙◌, subst, arith}
 use Rattle.std.proofs.lemmas.List.{length-map}
-use Rattle.fields.specs.Lists.{All}
+use Rattle.std.specs.List.{AllByRecursion}
 use Rattle.fields.specs.Field.{Ops, Laws, Zero, Fixed, comb}
 use Rattle.fields.specs.Basics
 use Rattle.fields.specs.Basics.{ring, twists}
@@ -21,7 +21,7 @@ module _ {F : Type 0} {o : Ops F} (l : Laws o) where
   infixl 70 ◌*◌
   -- f is zero at each locator of the block.
   abbrev Vanishing : List F → Block F → Type 0
-  Vanishing f (block a bs) = All (λ b. eval o a f b ≡ zero) bs
+  Vanishing f (block a bs) = AllByRecursion (λ b. eval o a f b ≡ zero) bs
 
   -- What x - c does to b at the parameter a.
   abbrev pub less : F → F → F → F
@@ -66,7 +66,7 @@ module _ {F : Type 0} {o : Ops F} (l : Laws o) where
       gather r e d = simp (ring, l)
 
   -- Where quotient and rest are zero all coefficients are.
-  undivide : (c x : F) (f : List F) → rest c (x ∷ f) ≡ zero → All (Zero o) (quotient c f) → All (Zero o) (x ∷ f)
+  undivide : (c x : F) (f : List F) → rest c (x ∷ f) ≡ zero → AllByRecursion (Zero o) (quotient c f) → AllByRecursion (Zero o) (x ∷ f)
   undivide c x [] r q = (sym (simp (ring, l, rest)) ∙ r, tt)
   undivide c x (y ∷ f) r q =
       let n : rest (twist c) (y ∷ f) ≡ zero = q.0 in
@@ -79,7 +79,7 @@ module _ {F : Type 0} {o : Ops F} (l : Laws o) where
   comb_zeros (b ∷ bs) (c ∷ cs) = ap (λ w. zero * b + w) (comb_zeros bs cs) ∙ simp (ring, l)
 
   -- Zeros are fixed.
-  pub fixed_zeros : (cs : List F) → All (Fixed o) (map (λ _. zero) cs)
+  pub fixed_zeros : (cs : List F) → AllByRecursion (Fixed o) (map (λ _. zero) cs)
   fixed_zeros [] = tt
   fixed_zeros (c ∷ cs) = (Basics.fixed_zero l, fixed_zeros cs)
 
@@ -167,7 +167,7 @@ module _ {F : Type 0} {o : Ops F} (l : Laws o) where
   lower c (block a bs) = block a (map (less c a) bs)
 
   -- Their parameters are the same.
-  lower_apart : (c a : F) (blocks : List (Block F)) → All (Apart o a) blocks → All (Apart o a) (map (lower c) blocks)
+  lower_apart : (c a : F) (blocks : List (Block F)) → AllByRecursion (Apart o a) blocks → AllByRecursion (Apart o a) (map (lower c) blocks)
   lower_apart c a [] h = tt
   lower_apart c a (block a' bs ∷ blocks) h = (h.0, lower_apart c a blocks h.1)
 
@@ -177,21 +177,21 @@ module _ {F : Type 0} {o : Ops F} (l : Laws o) where
   lower_places c (block a bs ∷ blocks) = rw (length-map bs (less c a), lower_places c blocks)
 
   -- They are lawful again.
-  lower_lawful : (a b : F) (blocks : List (Block F)) → b ≢ zero → All (Apart o a) blocks → Lawful o blocks → Lawful o (map (lower (ratio a b)) blocks)
+  lower_lawful : (a b : F) (blocks : List (Block F)) → b ≢ zero → AllByRecursion (Apart o a) blocks → Lawful o blocks → Lawful o (map (lower (ratio a b)) blocks)
   lower_lawful a b [] n apart h = tt
   lower_lawful a b (block a' bs ∷ blocks) n apart h =
       (h.0, other_block a b a' bs n apart.0 h.1, lower_apart (ratio a b) a' blocks h.2, lower_lawful a b blocks n apart.1 h.3)
 
   -- Where x - c divides f, the quotient is zero at the new locators.
-  lower_values : (c a x : F) (f : List F) → rest c (x ∷ f) ≡ zero → (bs : List F) → All (λ b. eval o a (x ∷ f) b ≡ zero) bs
-      → All (λ b. eval o a (quotient c f) b ≡ zero) (map (less c a) bs)
+  lower_values : (c a x : F) (f : List F) → rest c (x ∷ f) ≡ zero → (bs : List F) → AllByRecursion (λ b. eval o a (x ∷ f) b ≡ zero) bs
+      → AllByRecursion (λ b. eval o a (quotient c f) b ≡ zero) (map (less c a) bs)
   lower_values c a x f r [] h = tt
   lower_values c a x f r (b ∷ bs) h =
       (sym (divide c a x f b ∙ ap (λ w. eval o a (quotient c f) (less c a b) + w * b) r ∙ simp (ring, l)) ∙ h.0, lower_values c a x f r bs h.1)
 
   -- The same of all blocks.
-  lower_vanishes : (c x : F) (f : List F) → rest c (x ∷ f) ≡ zero → (blocks : List (Block F)) → All (Vanishing (x ∷ f)) blocks
-      → All (Vanishing (quotient c f)) (map (lower c) blocks)
+  lower_vanishes : (c x : F) (f : List F) → rest c (x ∷ f) ≡ zero → (blocks : List (Block F)) → AllByRecursion (Vanishing (x ∷ f)) blocks
+      → AllByRecursion (Vanishing (quotient c f)) (map (lower c) blocks)
   lower_vanishes c x f r [] h = tt
   lower_vanishes c x f r (block a bs ∷ blocks) h = (lower_values c a x f r bs h.0, lower_vanishes c x f r blocks h.1)
 
@@ -204,11 +204,11 @@ module _ {F : Type 0} {o : Ops F} (l : Laws o) where
 
   -- The root count for at most n coefficients.
   Few : ℕ → Type 0
-  Few n = (blocks : List (Block F)) (f : List F) → length f ≤ n → Lawful o blocks → length f ≤ places blocks → All (Vanishing f) blocks → All (Zero o) f
+  Few n = (blocks : List (Block F)) (f : List F) → length f ≤ n → Lawful o blocks → length f ≤ places blocks → AllByRecursion (Vanishing f) blocks → AllByRecursion (Zero o) f
 
   -- The first locator of the first block that has one takes a coefficient away.
   few_more : (n : ℕ) → Few n → (x : F) (f : List F) → length f ≤ n → (blocks : List (Block F)) → Lawful o blocks → suc (length f) ≤ places blocks
-      → All (Vanishing (x ∷ f)) blocks → All (Zero o) (x ∷ f)
+      → AllByRecursion (Vanishing (x ∷ f)) blocks → AllByRecursion (Zero o) (x ∷ f)
   unfolding Few
   few_more n ih x f m [] h k v = absurd (omega arith)
   few_more n ih x f m (block a [] ∷ blocks) h k v = few_more n ih x f m blocks h.3 (omega arith) v.1
@@ -235,7 +235,7 @@ module _ {F : Type 0} {o : Ops F} (l : Laws o) where
   few (suc n) blocks (x ∷ f) m h k v = few_more n (few n) x f (omega arith) blocks h k v
 
   -- What holds of each point holds of each locator, block by block.
-  by_blocks : (f : List F) (blocks : List (Block F)) → All (λ t. eval o t.0 f t.1 ≡ zero) (points blocks) → All (Vanishing f) blocks
+  by_blocks : (f : List F) (blocks : List (Block F)) → AllByRecursion (λ t. eval o t.0 f t.1 ≡ zero) (points blocks) → AllByRecursion (Vanishing f) blocks
   by_blocks f [] h = tt
   by_blocks f (block a bs ∷ blocks) h = (
     all_map P (λ b. (a, b)) bs (all_left P (map (λ b. (a, b)) bs) (points blocks) h),
@@ -246,10 +246,10 @@ module _ {F : Type 0} {o : Ops F} (l : Laws o) where
       P t = eval o t.0 f t.1 ≡ zero
 
   -- The root count, by the recursion and by the sum.
-  pub roots_few : (blocks : List (Block F)) (f : List F) → Lawful o blocks → length f ≤ places blocks → All (λ t. eval o t.0 f t.1 ≡ zero) (points blocks) → All (Zero o) f
+  pub roots_few : (blocks : List (Block F)) (f : List F) → Lawful o blocks → length f ≤ places blocks → AllByRecursion (λ t. eval o t.0 f t.1 ≡ zero) (points blocks) → AllByRecursion (Zero o) f
   unfolding Few
   roots_few blocks f h k v = few (length f) blocks f (omega arith) h k (by_blocks f blocks v)
 
   -- By the sum that readers see.
   pub root_count : RootCount o
-  root_count = subst (λ v. (blocks : List (Block F)) (f : List F) → Lawful o blocks → length f ≤ places blocks → All (λ t. v t.0 f t.1 ≡ zero) (points blocks) → All (Zero o) f) (Evaluation.both_values l) roots_few
+  root_count = subst (λ v. (blocks : List (Block F)) (f : List F) → Lawful o blocks → length f ≤ places blocks → AllByRecursion (λ t. v t.0 f t.1 ≡ zero) (points blocks) → AllByRecursion (Zero o) f) (Evaluation.both_values l) roots_few

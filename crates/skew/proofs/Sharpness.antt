@@ -4,7 +4,7 @@
 --   Sharp pts    a polynomial with no more coefficients than there are points, and zero at each, is zero
 use Rattle.std.proofs.Common.{◌≡◌, ℕ, ◌≤◌, ◌≢◌, List, [], ◌∷◌, ◌++◌, map, length, get_or, drop, sym, refl, ap, ◌∙◌, subst, append-nil, arith, length-append}
 use Rattle.std.proofs.lemmas.List.{length-map}
-use Rattle.fields.specs.Lists.{All}
+use Rattle.std.specs.List.{AllByRecursion}
 use Rattle.fields.specs.Field.{Ops, Laws, Zero, plus, scale}
 use Rattle.fields.specs.Basics
 use Rattle.fields.specs.Basics.{ring}
@@ -28,7 +28,7 @@ module _ {F : Type 0} (o : Ops F) where
 
   -- Only zero vanishes at all points with so few coefficients.
   abbrev pub Sharp : List (F × F) → Type 0
-  Sharp pts = (f : List F) → length f ≤ length pts → All (Nil f) pts → All (Zero o) f
+  Sharp pts = (f : List F) → length f ≤ length pts → AllByRecursion (Nil f) pts → AllByRecursion (Zero o) f
 
 module _ {F : Type 0} {o : Ops F} (l : Laws o) where
   open o use {zero, one, add as ◌+◌, mul as ◌*◌, neg, inv}
@@ -60,7 +60,7 @@ module _ {F : Type 0} {o : Ops F} (l : Laws o) where
       undo n = Basics.mul_assoc l (step o a w) (inv w) w ∙ ap (λ x. step o a w * x) (Basics.inv_mul l w n) ∙ Basics.mul_one l _
 
   -- One more in the middle.
-  insert : (P : F × F → Type 0) (xs : List (F × F)) (t : F × F) (ys : List (F × F)) → P t → All P (xs ++ ys) → All P (xs ++ t ∷ ys)
+  insert : (P : F × F → Type 0) (xs : List (F × F)) (t : F × F) (ys : List (F × F)) → P t → AllByRecursion P (xs ++ ys) → AllByRecursion P (xs ++ t ∷ ys)
   insert P [] t ys p h = (p, h)
   insert P (x ∷ xs) t ys p h = (h.0, insert P xs t ys p h.1)
 
@@ -84,7 +84,7 @@ module _ {F : Type 0} {o : Ops F} (l : Laws o) where
   sharp_left xs (t ∷ ys) h = sharp_left xs ys (sharp_less xs t ys h)
 
   -- A monic polynomial with no more coefficients than sharp points does not vanish at all of them.
-  pub monic_seen : (pts : List (F × F)) (m : List F) → Sharp o pts → Monic o m → length m ≤ length pts → All (Nil o m) pts → ⊥
+  pub monic_seen : (pts : List (F × F)) (m : List F) → Sharp o pts → Monic o m → length m ≤ length pts → AllByRecursion (Nil o m) pts → ⊥
   monic_seen pts m h top k v = Basics.one_zero l (sym top.2 ∙ Multiplication.coef_of l m (h m k v) top.0)
 
   -- Equal lists have equal heads.
@@ -110,12 +110,12 @@ module _ {F : Type 0} {o : Ops F} (l : Laws o) where
       gone x = simp (ring, l)
 
   -- And so at all points.
-  minus_nil : (f g : List F) (pts : List (F × F)) → map (λ t. eval o t.0 f t.1) pts ≡ map (λ t. eval o t.0 g t.1) pts → All (Nil o (minus f g)) pts
+  minus_nil : (f g : List F) (pts : List (F × F)) → map (λ t. eval o t.0 f t.1) pts ≡ map (λ t. eval o t.0 g t.1) pts → AllByRecursion (Nil o (minus f g)) pts
   minus_nil f g [] e = tt
   minus_nil f g (t ∷ pts) e = (at_minus f g t (head_same e), minus_nil f g pts (tail_same e))
 
   -- With a difference of zero the coefficients are the same.
-  minus_same : (f g : List F) → All (Zero o) (minus f g) → (i : ℕ) → coef o f i ≡ coef o g i
+  minus_same : (f g : List F) → AllByRecursion (Zero o) (minus f g) → (i : ℕ) → coef o f i ≡ coef o g i
   unfolding minus
   minus_same f g z i =
       Basics.equal_of_sub l (coef o f i) (coef o g i)

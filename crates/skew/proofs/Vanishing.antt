@@ -6,7 +6,7 @@
 use Rattle.std.proofs.Common.{◌≡◌, ℕ, suc, ◌<◌, ◌≤◌, ◌≢◌, List, [], ◌∷◌, map, length, sym, refl, ap, ◌∙◌, subst, inl, inr, arith}
 use Rattle.std.proofs.Math.ListN.{get_or-eq_default}
 use Rattle.std.proofs.lemmas.Bool.{cases_lt}
-use Rattle.fields.specs.Lists.{All}
+use Rattle.std.specs.List.{AllByRecursion}
 use Rattle.fields.specs.Field.{Ops, Laws, Zero, Fixed, comb}
 use Rattle.fields.specs.Basics
 use Rattle.fields.specs.Basics.{ring}
@@ -68,32 +68,32 @@ module _ {F : Type 0} {o : Ops F} (l : Laws o) where
         top = h.coefficients (suc m.0) ∙ sym (Multiplication.coef_product l (linear o c) g (suc m.0)) ∙ highest c g m.0 m.1 m.2
 
   -- A combination of zeros.
-  comb_null : (cs es : List F) → All (Zero o) es → comb o cs es ≡ zero
+  comb_null : (cs es : List F) → AllByRecursion (Zero o) es → comb o cs es ≡ zero
   comb_null [] es h = refl
   comb_null (c ∷ cs) [] h = refl
   comb_null (c ∷ cs) (e ∷ es) h = ap (λ w. c * w + comb o cs es) h.0 ∙ ap (λ w. c * zero + w) (comb_null cs es h.1) ∙ simp (ring, l)
 
   -- What holds of each point holds of one among them.
-  among : {A : Type 0} (P : A → Type 0) (x : A) (xs : List A) → Among x xs → All P xs → P x
+  among : {A : Type 0} (P : A → Type 0) (x : A) (xs : List A) → Among x xs → AllByRecursion P xs → P x
   among P x [] h k = absurd h
   among P x (y ∷ ys) (inl e) k = subst P (sym e) k.0
   among P x (y ∷ ys) (inr h) k = among P x ys h k.1
 
   -- The values at points that are among those.
-  images : (f : List F) (pts : List (F × F)) (a : F) (es : List F) → All (λ t. eval o t.0 f t.1 ≡ zero) pts → All (λ e. Among (a, e) pts) es → All (Zero o) (map (eval o a f) es)
+  images : (f : List F) (pts : List (F × F)) (a : F) (es : List F) → AllByRecursion (λ t. eval o t.0 f t.1 ≡ zero) pts → AllByRecursion (λ e. Among (a, e) pts) es → AllByRecursion (Zero o) (map (eval o a f) es)
   images f pts a [] h k = tt
   images f pts a (e ∷ es) h k = (among (λ t. eval o t.0 f t.1 ≡ zero) (a, e) pts k.0 h, images f pts a es h k.1)
 
   -- What vanishes at points vanishes at their combinations with fixed coefficients.
-  spanned : (f : List F) (pts : List (F × F)) → All (λ t. eval o t.0 f t.1 ≡ zero) pts → (a : F) (cs es : List F) → All (Fixed o) cs → All (λ e. Among (a, e) pts) es
+  spanned : (f : List F) (pts : List (F × F)) → AllByRecursion (λ t. eval o t.0 f t.1 ≡ zero) pts → (a : F) (cs es : List F) → AllByRecursion (Fixed o) cs → AllByRecursion (λ e. Among (a, e) pts) es
       → eval o a f (comb o cs es) ≡ zero
   spanned f pts h a cs es p k = sym (Evaluation.comb_map l (eval o a f) (Evaluation.eval_linear l a f) cs es p) ∙ comb_null cs (map (eval o a f) es) (images f pts a es h k)
 
   -- Together: what the annihilator promises.
-  pub is_annihilator : (pts : List (F × F)) (f : List F) → Monic o f → length f ≤ suc (length pts) → All (λ t. eval o t.0 f t.1 ≡ zero) pts → Annihilator o pts f
+  pub is_annihilator : (pts : List (F × F)) (f : List F) → Monic o f → length f ≤ suc (length pts) → AllByRecursion (λ t. eval o t.0 f t.1 ≡ zero) pts → Annihilator o pts f
   is_annihilator pts f m d h = record {
     monic = m;
     degree = d;
-    vanishes = subst (λ v. All (λ t. v t.0 f t.1 ≡ zero) pts) (Evaluation.both_values l) h;
-    spans = subst (λ v. (a : F) (cs es : List F) → All (Fixed o) cs → All (λ e. Among (a, e) pts) es → v a f (comb o cs es) ≡ zero) (Evaluation.both_values l) (spanned f pts h);
+    vanishes = subst (λ v. AllByRecursion (λ t. v t.0 f t.1 ≡ zero) pts) (Evaluation.both_values l) h;
+    spans = subst (λ v. (a : F) (cs es : List F) → AllByRecursion (Fixed o) cs → AllByRecursion (λ e. Among (a, e) pts) es → v a f (comb o cs es) ≡ zero) (Evaluation.both_values l) (spanned f pts h);
   }

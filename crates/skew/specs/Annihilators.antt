@@ -9,7 +9,7 @@
 --   Root m a v c               x - c takes v to zero at the parameter a
 --   Grown m g p f              f vanishes wherever g does, and at the point p; it is monic where g is
 use Rattle.std.specs.Prelude.{◌≡◌, ℕ, suc, ◌≤◌, ◌⊎◌, List, [], ◌∷◌, map, length}
-use Rattle.fields.specs.Lists.{All}
+use Rattle.std.specs.List.{AllByRecursion}
 use Rattle.fields.specs.Field.{Ops, Fixed, comb}
 use Rattle.fields.specs.Meaning.{Meaning}
 use Rattle.fields.specs.Elements.{Elem, elem, elems, ops}
@@ -35,8 +35,8 @@ Monic o f = (n : ℕ) × (length f ≡ suc n) × (coef o f n ≡ o.one)
 pub record Annihilator {F : Type 0} (o : Ops F) (pts : List (F × F)) (f : List F) : Type 0 where
   pub monic : Monic o f
   pub degree : length f ≤ suc (length pts)
-  pub vanishes : All (Vanishes o f) pts
-  pub spans : (a : F) (cs es : List F) → All (Fixed o) cs → All (λ e. Among (a, e) pts) es → value o a f (comb o cs es) ≡ o.zero
+  pub vanishes : AllByRecursion (Vanishes o f) pts
+  pub spans : (a : F) (cs es : List F) → AllByRecursion (Fixed o) cs → AllByRecursion (λ e. Among (a, e) pts) es → value o a f (comb o cs es) ≡ o.zero
 
 pub record Annihilated (m : Meaning) (ps : List Point) (f : List ℕ) : Type 0 where
   pub room : length ps ≤ 24

@@ -10,7 +10,7 @@
 --   Held m k ps s              the pairs of s are so carried, and no polynomial has more coefficients than spots, plus one
 --   Turned, Raised, Crossed    what the parts of one step promise
 use Rattle.std.specs.Prelude.{◌≡◌, ℕ, suc, ◌+◌, ◌<◌, ◌≤◌, ◌≢◌, ◌⊎◌, List, [], ◌∷◌, map, length, take}
-use Rattle.fields.specs.Lists.{All}
+use Rattle.std.specs.List.{AllByRecursion}
 use Rattle.fields.specs.Field.{Ops}
 use Rattle.fields.specs.Meaning.{Meaning, clip}
 use Rattle.fields.specs.Elements.{Elem, elem, elems, codes, ops}
@@ -37,8 +37,8 @@ abbrev pub worth : {F : Type 0} (o : Ops F) → Two F → Spot F → F
 worth o q p = o.add (value o p.parameter q.q0 p.locator) (value o p.parameter q.q1 p.second)
 
 pub record Carried {F : Type 0} (o : Ops F) (k : ℕ) (ps : List (Spot F)) (A B : Two F) (a b : ℕ) : Type 0 where
-  pub a_vanishes : All (λ p. worth o A p ≡ o.zero) ps
-  pub b_vanishes : All (λ p. worth o B p ≡ o.zero) ps
+  pub a_vanishes : AllByRecursion (λ p. worth o A p ≡ o.zero) ps
+  pub b_vanishes : AllByRecursion (λ p. worth o B p ≡ o.zero) ps
   pub A0 : Degree o A.q0 a
   pub A1 : (i : ℕ) → a < i + k → coef o A.q1 i ≡ o.zero
   pub B1 : Degree o B.q1 b

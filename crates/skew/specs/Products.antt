@@ -7,7 +7,7 @@
 --   Degree o f n          coefficient n of f is not zero, and all above it are zero
 --   Product o f g p       what a product p of f and g keeps
 use Rattle.std.specs.Prelude.{◌≡◌, ℕ, suc, ◌-◌, ◌≤◌, ◌≢◌, List, slice_index_or}
-use Rattle.fields.specs.Lists.{All}
+use Rattle.std.specs.List.{AllByRecursion}
 use Rattle.fields.specs.Field.{Ops, Zero}
 use Rattle.skew.specs.Values.{twisted, value}
 
@@ -32,4 +32,4 @@ pub record Product {F : Type 0} (o : Ops F) (f g p : List F) : Type 0 where
   pub coefficients : (l : ℕ) → coef o p l ≡ coefficient o f g l
   -- its value at b is the value of f at the value of g at b
   pub applies : (a b : F) → value o a p b ≡ value o a f (value o a g b)
-  pub nonzero : ¬ All (Zero o) f → ¬ All (Zero o) g → ¬ All (Zero o) p
+  pub nonzero : ¬ AllByRecursion (Zero o) f → ¬ AllByRecursion (Zero o) g → ¬ AllByRecursion (Zero o) p

@@ -7,7 +7,7 @@
 --   Leads m f d i             d is the degree of f, and i the inverse of its coefficient there
 --   Untwisted m n x y         y is the code that n twists take to x
 use Rattle.std.specs.Prelude.{◌≡◌, ℕ, ◌+◌, ◌<◌, ◌≤◌, ◌⊎◌, List, length}
-use Rattle.fields.specs.Lists.{All}
+use Rattle.std.specs.List.{AllByRecursion}
 use Rattle.fields.specs.Field.{Ops, Zero}
 use Rattle.fields.specs.Meaning.{Meaning, clip}
 use Rattle.fields.specs.Elements.{elem, elems, ops}
@@ -28,7 +28,7 @@ pub record Divided (m : Meaning) (n p : List ℕ) (k : ℕ) (q : List ℕ) : Typ
   pub quotient : Quotient (ops m) (elems m n) (elems m p) d k (elems m q)
 
 abbrev pub Undivided : Meaning → List ℕ → ℕ → Type 0
-Undivided m p k = All (Zero (ops m)) (elems m p) ⊎ ((d : ℕ) × Degree (ops m) (elems m p) d × (48 < d + k))
+Undivided m p k = AllByRecursion (Zero (ops m)) (elems m p) ⊎ ((d : ℕ) × Degree (ops m) (elems m p) d × (48 < d + k))
 
 pub record Leads (m : Meaning) (f : List ℕ) (d i : ℕ) : Type 0 where
   pub degree : Degree (ops m) (elems m f) d

@@ -9,7 +9,7 @@
 --   at o f t          the value of f at a point
 --   RootCount o      a polynomial with at most n coefficients that vanishes at n lawful locators is zero
 use Rattle.std.specs.Prelude.{◌≡◌, ℕ, ◌+◌, ◌≤◌, ◌≢◌, List, [], ◌∷◌, ◌++◌, map, length}
-use Rattle.fields.specs.Lists.{All}
+use Rattle.std.specs.List.{AllByRecursion}
 use Rattle.fields.specs.Field.{Ops, Zero, Fixed, comb}
 use Rattle.skew.specs.Values.{value}
 
@@ -26,7 +26,7 @@ points (block a bs ∷ rest) = map (λ b. (a, b)) bs ++ points rest
 
 module _ {F : Type 0} (o : Ops F) where
   abbrev pub Independent : List F → Type 0
-  Independent bs = (cs : List F) → length cs ≡ length bs → All (Fixed o) cs → comb o cs bs ≡ o.zero → All (Zero o) cs
+  Independent bs = (cs : List F) → length cs ≡ length bs → AllByRecursion (Fixed o) cs → comb o cs bs ≡ o.zero → AllByRecursion (Zero o) cs
 
   abbrev pub Conjugate : F → F → Type 0
   Conjugate a b = (c : F) × (c ≢ o.zero) × (b ≡ o.mul (o.mul (o.twist c) a) (o.inv c))
@@ -36,7 +36,7 @@ module _ {F : Type 0} (o : Ops F) where
 
   abbrev pub Lawful : List (Block F) → Type 0
   Lawful [] = Unit {0}
-  Lawful (block a bs ∷ rest) = (a ≢ o.zero) × Independent bs × All (Apart a) rest × Lawful rest
+  Lawful (block a bs ∷ rest) = (a ≢ o.zero) × Independent bs × AllByRecursion (Apart a) rest × Lawful rest
 
   abbrev pub at : List F → F × F → F
   at f t = value o t.0 f t.1
@@ -45,4 +45,4 @@ module _ {F : Type 0} (o : Ops F) where
   Vanishes f t = at f t ≡ o.zero
 
   abbrev pub RootCount : Type 0
-  RootCount = (blocks : List (Block F)) (f : List F) → Lawful blocks → length f ≤ places blocks → All (Vanishes f) (points blocks) → All (Zero o) f
+  RootCount = (blocks : List (Block F)) (f : List F) → Lawful blocks → length f ≤ places blocks → AllByRecursion (Vanishes f) (points blocks) → AllByRecursion (Zero o) f

@@ -1,6 +1,6 @@
 // Division on the left.
 ghost use Rattle.std.specs.Prelude.{MatchOption};
-ghost use Rattle.fields.specs.Lists.{All};
+ghost use Rattle.std.specs.List.{AllByRecursion};
 ghost use Rattle.fields.specs.Field.{Zero};
 ghost use Rattle.fields.specs.Elements.{elems, ops};
 ghost use Rattle.skew.specs.Polynomials.{coefficients};
@@ -19,7 +19,7 @@ struct Lead {
 // Nothing where the polynomial is zero.
 fn leading<K: Kind>(kind: &K, f: &Polynomial) -> Option<Lead>
     ensures { let m = K.meaning kind.now in let f = coefficients f.entry.now in
-        MatchOption result (All (Zero (ops m)) (elems m f)) (λ t. Leads m f t.degree t.inverse) }
+        MatchOption result (AllByRecursion (Zero (ops m)) (elems m f)) (λ t. Leads m f t.degree t.inverse) }
 {
     for i in (0..f.len()).rev() {
         if let Some(inverse) = kind.inverse(f.get(i)) {
