@@ -1,5 +1,5 @@
 -- Sums of rows times elements, what is picked of them at marked places, and what rows span.
-use Rattle.std.proofs.Common.{◌≡◌, ℕ, suc, ◌+◌ as ◌+ℕ◌, ◌≤◌, Bool, true, false, List, [], ◌∷◌, map, length, drop, sym, refl, ap, ◌∙◌, subst, arith, drop_of_length-le}
+use Rattle.std.proofs.Common.{◌≡◌, ℕ, suc, ◌+◌ as ◌+ℕ◌, Bool, true, false, List, [], ◌∷◌, map, length, drop, sym, refl, ap, ◌∙◌, subst, arith, drop-cons, drop_of_length-le}
 use Rattle.std.proofs.lemmas.List.{length-map}
 use Rattle.std.specs.List.{AllByRecursion}
 use Rattle.fields.specs.Field.{Ops, Laws, Zero, Fixed, plus, scale, comb}
@@ -159,19 +159,13 @@ module _ {F : Type 0} {o : Ops F} (l : Laws o) where
       nought : (w : F) → zero * x + w ≡ w
       nought w = simp (ring, l)
 
-  -- A list from place j on, by what stands there.
-  drop_more : (j : ℕ) (xs : List F) → suc j ≤ length xs → drop j xs ≡ coef o xs j ∷ drop (suc j) xs
-  drop_more j [] e = absurd (omega arith)
-  drop_more ℕ.zero (x ∷ xs) e = refl
-  drop_more (suc j) (x ∷ xs) e = drop_more j xs (omega arith)
-
   -- At the pivots a sum of rows has the elements themselves.
   pub pick_mix : (j : ℕ) (marks : List Bool) (hs : List (List F)) (xs : List F) → Pivots o j marks hs → length xs ≡ length hs → j +ℕ count marks ≡ length xs
       → pick marks (mix o (length marks) hs xs) ≡ drop j xs
   pick_mix j [] hs xs h e c = sym (drop_of_length-le xs (omega arith))
   pick_mix j (true ∷ marks) hs xs h e c =
       cons_path (ap (λ w. comb o w xs) h.0 ∙ comb_unit (length hs) j xs e) (pick_mix (suc j) marks (tails o hs) xs h.1 (e ∙ sym (length-map hs (drop 1))) (omega arith))
-      ∙ sym (drop_more j xs (omega arith))
+      ∙ sym (drop-cons xs j zero (omega arith))
   pick_mix j (false ∷ marks) hs xs h e c = pick_mix j marks (tails o hs) xs h (e ∙ sym (length-map hs (drop 1))) c
 
   -- A row less itself.

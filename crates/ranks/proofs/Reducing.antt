@@ -1,17 +1,15 @@
 -- What the loops over rows keep, and what an insertion leaves.
 --
---   Reading m g cells      the element at each place of these cells is g of the place
+--   rest m slots h p       the sum of the rows in use from place p on, each times what h has at its pivot
 --   Seeking m h i          the first i places of h are zero
 --   Clearing m slots h left p      what is left, less the rows from place p on, is h cleared by all
 --   SlotSwept m p h old new        a place that is not in use stays so, and a row has zero at p
 --   Sweeping m rows p h i new      the first i places are swept, the others as they were
 use Rattle.std.proofs.Common.{◌≡◌, ℕ, suc, ◌+◌, ◌<◌, ◌≤◌, true, false, ◌≢◌, List, [], ◌∷◌, map, length, get_or, drop, set, Option, Some, None, sym, refl, ap, ◌∙◌, subst, inl, inr, add-one, arith, length-set, drop-cons, get_or-set_other, get_or-set_same, below_more}
 use Rattle.std.specs.Option.{is_some}
-use Rattle.std.proofs.lemmas.List.{length-map}
 use Rattle.std.proofs.Math.ListN.{get_or-eq_default}
-use Rattle.std.proofs.lemmas.List.{map-set}
+use Rattle.std.proofs.lemmas.List.{length-map, map-set, drop_all}
 use Rattle.std.proofs.lemmas.Bool.{cases_lt}
-use Rattle.std.proofs.lemmas.List.{drop_all}
 use Rattle.std.specs.List.{AllByRecursion}
 use Rattle.fields.specs.Field.{Ops, Zero, plus, scale}
 use Rattle.fields.specs.Field as field
@@ -38,7 +36,6 @@ pub record Seeking (m : Meaning) (h : List ℕ) (i : ℕ) : Type 0 where
   pub none : (k : ℕ) → k < i → elem m (get_or h k 0) ≡ (ops m).zero
 
 module _ (m : Meaning) where
-  -- The sum of the rows in use from place p on, each times what h has at its pivot.
   abbrev pub rest : List (Option RowCodes) → List (Elem m) → ℕ → List (Elem m)
   rest slots h p = mix (ops m) 8 (map (row m) (in_use (drop p slots))) (pick (map is_some (drop p slots)) (drop p h))
 

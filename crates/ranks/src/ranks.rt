@@ -23,12 +23,13 @@ pub fn rank<K: Kind>(kind: &K, symbols: &[u8]) -> usize
 }
 
 // The first place whose locator is a combination of the earlier ones with fixed coefficients; nothing exactly where the
-// locators are independent. A loop, since a closure that alters the form would say nothing of what `position` finds.
+// locators are independent.
 pub fn dependent_at<K: Kind>(kind: &K, locators: &[u8]) -> Option<usize>
     ensures { let m = K.meaning kind.now in let ls = locators.now in
         MatchOption result (Independent (ops m) (elems m ls)) (λ i. Depends m ls i) }
 {
     let mut form = Form::empty();
+    // A loop: a proof learns nothing of what `position` finds by a closure that alters the form.
     for (i, x) in locators.iter().enumerate() {
         let more = form.insert(kind, &Row::of_digits(kind, *x));
         if !more {

@@ -16,13 +16,13 @@ pub const WIDTH: usize = 8;
 // A row is of codes; where fewer than eight places are in use, zeros follow.
 #[derive(Clone, Copy)]
 pub struct Row {
-    pub cells: [u8; 8],
+    pub cells: [u8; WIDTH],
 }
 
 // The row with its pivot at place p stands at place p. A form is of no kind, so that it is reduced is said of it for each kind.
 #[derive(Clone, Copy)]
 pub struct Form {
-    pub rows: [Option<Row>; 8],
+    pub rows: [Option<Row>; WIDTH],
 }
 
 // Where a row is not 0, and the inverse of what stands there.
@@ -86,7 +86,7 @@ fn sweep<K: Kind>(kind: &K, form: &mut Form, p: usize, by: &Row)
 
 impl Row {
     // The row of zeros.
-    pub const ZERO: Row = Row { cells: [0; 8] };
+    pub const ZERO: Row = Row { cells: [0; WIDTH] };
 
     // The row with f(i) at each place i.
     pub fn from_fn<F: Fn(usize) -> u8>(f: F) -> Row
@@ -113,7 +113,9 @@ impl Form {
     pub fn empty() -> Form
         ensures { (m : Meaning) → InForm m result × (rows_of m result ≡ []) }
     {
-        Form { rows: [None; 8] }
+        Form {
+            rows: [None; WIDTH],
+        }
     }
 
     // Puts in one row more, if it is not among the sums of the rows with fixed coefficients: then the answer is true, and

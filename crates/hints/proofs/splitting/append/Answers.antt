@@ -1,5 +1,5 @@
-use Rattle.std.proofs.Common.{◌++◌, take, refl, ap, ◌∙◌, arith}
-use Rattle.std.proofs.lemmas.List.{length-take, take_all}
+use Rattle.std.proofs.Common.{refl, arith}
+use Rattle.std.proofs.lemmas.List.{length-take}
 use Rattle.codes.specs.Holdings.{held}
 use Rattle.skew.proofs.Filling.{appended_none, appended_more}
 use Rattle.hints.proofs.splitting.append.Goals as goal
@@ -9,6 +9,3 @@ loop-x-init c = appended_none 24 (held c.args.symbols.now) (omega (arith, length
 
 pub loop-x-preserved : goal.loop-x-preserved
 loop-x-preserved c = appended_more 24 (held c.args.symbols.now) _ 0 c.loop-x-test.true c.loop-x.invariant refl c.push.ensures
-
-pub returns : goal.returns
-returns c = c.loop-x.invariant ∙ ap (λ w. take 24 (held c.args.symbols.now ++ w)) (take_all c.loop-x.x-index _ c.loop-x-test.false)
