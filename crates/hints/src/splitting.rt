@@ -1,5 +1,5 @@
 // The splitting of a difference with a full part of least weight.
-ghost use Rattle.std.specs.Prelude.{◌≡◌, ℕ, ◌-◌, ◌≤◌, List, ◌++◌, map, length, take, replicate};
+ghost use Rattle.std.specs.Prelude.{◌≡◌, ℕ, ◌-◌, ◌≤◌, List, ◌++◌, map, length, replicate};
 ghost use Rattle.fields.specs.Field.{plus};
 ghost use Rattle.fields.specs.Elements.{Elem, elem, codes, ops};
 ghost use Rattle.ranks.specs.Reduction.{row as row_of, InForm};
@@ -64,30 +64,21 @@ pub fn row_of(symbols: &[u8]) -> Row
     Row::from_fn(|i| symbols.get(i).copied().unwrap_or(0))
 }
 
-// The first n symbols of the row, behind the others.
-fn append(symbols: &mut Symbols, row: &Row, n: usize)
-    requires { n ≤ 8 }
-    ensures { held symbols.new ≡ take 24 (held symbols.old ++ take n row.now.cells) }
-{
-    for x in &row.cells[..n] {
-        symbols.push(*x);
-    }
-}
-
 // The parts of one block, behind those of the others.
 fn split_block<K: Kind>(kind: &K, hints: &BlockHints, e: &[u8], parts: &mut Parts)
     requires { length e.now ≤ 8 }
     ensures { let m = K.meaning kind.now in let e = e.entry.now in
         ((g : Given (Elem m)) → BlockHolds m (length e) hints.now g → BlockSplit m e g parts.old parts.new) }
 {
+    let n = e.len();
     let start = row_of(e);
     let left = cleared(kind, &hints.columns, &start);
     let full = reduced_row(kind, &hints.rows, &left);
     let row = less(kind, &left, &full);
     let column = less(kind, &start, &left);
-    append(&mut parts.full, &full, e.len());
-    append(&mut parts.row, &row, e.len());
-    append(&mut parts.column, &column, e.len());
+    parts.full.append(&full.cells[..n]);
+    parts.row.append(&row.cells[..n]);
+    parts.column.append(&column.cells[..n]);
 }
 
 // The parts of a difference in at most twelve blocks of at most eight symbols, at most 24 in all: a splitting by the hints, and none
