@@ -1,5 +1,5 @@
 // A generator of numbers: 32 bits, of which the top byte is drawn.
-ghost use Rattle.std.specs.Prelude.{◌+◌, ◌<◌, ◌≤◌};
+ghost use Rattle.std.specs.Prelude.{◌≡◌, ◌+◌, ◌<◌, ◌≤◌};
 
 use fields::Kind;
 
@@ -9,13 +9,15 @@ pub struct Random {
 }
 
 impl Random {
-    pub fn seeded(seed: u8) -> Random {
+    pub fn seeded(seed: u8) -> Random
+        ensures { result.state ≡ seed }
+    {
         Random {
             state: u32::from(seed),
         }
     }
 
-    // A number below the bound, and 0 below 0.
+    // A number below the bound; 0 where the bound is 0.
     pub fn below(&mut self, bound: u16) -> u8
         ensures { 1 ≤ bound → result < bound }
     {

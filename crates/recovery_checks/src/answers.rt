@@ -16,6 +16,7 @@ pub fn verdict(rt: &impl Print, sort: &str, taken: Result<(), NotTaken>) -> io::
 
 // Whether the parts add up to the word less the codeword, and the full part weighs what is said.
 fn adds_up<K: Kind>(kind: &K, code: &Code, word: &[u8], r: &Recovery) -> bool {
+    // Five lists are looked at in one place, so it is the places that are gone over.
     let parts = &r.parts;
     let adds = (0..word.len()).all(|i| {
         let inner = kind.sum(parts.row.get(i), parts.column.get(i));

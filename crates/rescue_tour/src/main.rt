@@ -28,6 +28,7 @@ fn travel<K: Kind>(rt: &impl Print, kind: &K, code: &Code) -> io::Result<()> {
 fn main(rt: HostRuntime) -> io::Result<()> {
     match set_up(&Mod13, &SHEET) {
         Ok(code) => travel(&rt, &Mod13, &code),
+        // Not the line of a fault: a tour leaves the layer out.
         Err(fault) => println!(&rt; "refused {} at place {}", fault.number(), fault.place),
     }
 }

@@ -18,7 +18,7 @@ use std::io;
 #[cfg(test)]
 mod tests;
 
-// The first n symbols that are drawn.
+// The first n symbols that are drawn. code_checks has the same for its own list: a trait for the two would be longer.
 fn drawn<K: Kind>(kind: &K, random: &mut Random, n: usize) -> Polynomial {
     let mut out = Polynomial::empty();
     for x in random.symbols(kind).take(n) {

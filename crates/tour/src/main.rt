@@ -69,6 +69,7 @@ fn main(rt: HostRuntime) -> io::Result<()> {
     line(&rt, "sheet", &SHEET)?;
     match set_up(&Mod13, &SHEET) {
         Ok(code) => travel(&rt, &Mod13, &code),
+        // Not the line of a fault: a tour leaves the layer out.
         Err(fault) => println!(&rt; "refused {} at place {}", fault.number(), fault.place),
     }
 }
