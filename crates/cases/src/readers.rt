@@ -31,12 +31,7 @@ impl Hint<'_> {
     }
 
     // What is said of the hint by those that were taken before.
-    pub fn add_to<K: Kind>(
-        self,
-        kind: &K,
-        code: &Code,
-        hints: &mut Hints,
-    ) -> Result<(), NotTaken> {
+    pub fn add_to<K: Kind>(self, kind: &K, code: &Code, hints: &mut Hints) -> Result<(), NotTaken> {
         match self {
             Hint::Row { block, element } => hints.add_row(kind, code, block, element),
             Hint::Column {

@@ -1,7 +1,7 @@
 -- The candidate is weighed, and given where it is in reach.
 use Rattle.std.proofs.Common.{◌≡◌, ℕ, suc, ◌+◌, ◌*◌, ◌<◌, ◌≤◌, Bool, true, false, List, [], ◌∷◌, map, length, get_or, take, drop, sym, refl, ap, ◌∙◌, subst, arith}
 use Rattle.std.proofs.lemmas.List.{length-map}
-use Rattle.std.proofs.lemmas.List.{take_all, take-map, drop-map, length-take, length-take-le}
+use Rattle.std.proofs.lemmas.List.{take_all, take-map, drop-map, length-take}
 use Rattle.std.specs.List.{AllByRecursion}
 use Rattle.fields.specs.Field.{plus}
 use Rattle.fields.specs.Field as field
