@@ -9,7 +9,7 @@ use Rattle.fields.specs.Meaning.{Meaning, Laws, Code, clip}
 use Rattle.fields.specs.Elements.{element, elem, elems, reciprocal_of, ops}
 use Rattle.fields.specs.Carried.{carried, carried_laws}
 use Rattle.fields.specs.Carried
-pub use Rattle.fields.specs.Carried.{code_elem, same_code, elem_code, named, answers, elems_codes, clips, zero_code, clip_code, counts, is_code, sum_counts, product_counts, opposite_counts, twist_counts, untwist_counts, same_elem, zero_counts, one_counts, reciprocal_code}
+pub use Rattle.fields.specs.Carried.{code_elem, same_code, elem_code, named, answers, elems_codes, clips, zero_code, clip_code, counts, is_code, sum_counts, product_counts, opposite_counts, twist_counts, untwist_counts, same_elem, zero_counts, one_counts, reciprocal_code, reciprocal_counts}
 
 module _ (m : Meaning) where
   -- What a kind answers.

@@ -4,8 +4,8 @@
 --   sums, products, ring    a sum or product is sorted and collected; `ring` multiplies out too
 --   quotients               an element meets its inverse (where it is known to differ from zero)
 --   twists                  a twist goes inside
-use Rattle.std.specs.Prelude.{◌≡◌, ◌≢◌}
-use Rattle.std.proofs.Common.{sym, ◌∙◌, ap}
+use Rattle.std.specs.Prelude.{◌≡◌, ◌≢◌, ◌⊎◌}
+use Rattle.std.proofs.Common.{sym, ◌∙◌, ap, inl, inr}
 use Rattle.fields.specs.Field.{Ops, Laws, Fixed}
 
 module _ {F : Type 0} {o : Ops F} (l : Laws o) where
@@ -165,6 +165,9 @@ module _ {F : Type 0} {o : Ops F} (l : Laws o) where
 
   pub mul_nonzero : (x y : F) → x ≢ zero → y ≢ zero → x * y ≢ zero
   mul_nonzero x y n m e = m (right_zero x y n e)
+
+  pub some_zero : (x y : F) → x * y ≡ zero → (x ≡ zero) ⊎ (y ≡ zero)
+  some_zero x y e = elim (l.same x zero) [ yes p ↦ inl p | no n ↦ inr (right_zero x y n e) ]
 
   -- of a product one, neither factor is zero, and the second is the inverse of the first
   pub unit_nonzero : (x y : F) → x * y ≡ one → x ≢ zero

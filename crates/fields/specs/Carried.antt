@@ -120,6 +120,9 @@ module _ {m : Meaning} (l : Laws m) where
   pub reciprocal_code : (a : ℕ) → Code m a → Code m (reciprocal_of m a)
   reciprocal_code a h = cond_both (nat_lt 0 a) (m.inverse a) 0 (λ x. x < m.size) (λ e. l.inverse_code a h) (λ e. zero_code)
 
+  pub reciprocal_counts : {r : ℕ} (a : ℕ) → r ≡ reciprocal_of m (clip m a) → clip m r ≡ r
+  reciprocal_counts {r} a e = counts r (subst (λ x. Code m x) (sym e) (reciprocal_code (clip m a) (clip_code a)))
+
   -- Sums and products of codes, told in elements; and codes are equal where their elements are.
   pub sum_elem : (a b : ℕ) → Code m a → Code m b → elem m (m.sum a b) ≡ (carried m).add (elem m a) (elem m b)
   sum_elem a b ha hb = ap (elem m) (sym (ap (λ x. m.sum x (clip m b)) (counts a ha) ∙ ap (m.sum a) (counts b hb))) ∙ adds m a b

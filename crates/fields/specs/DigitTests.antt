@@ -82,6 +82,9 @@ module _ (m : Meaning) (fixed : List ℕ) where
     listed : (d : ℕ) → Fixed m d → T (member d fixed)
     listed d f = subst T (cond-true (m.twist d == d) (member d fixed) true (eq-eqb _ _ f.1)) (at (λ d. cond (m.twist d == d) (member d fixed) true) m.size t2 d f.0)
 
+    all_listed : (ds : List ℕ) → AllByRecursion (Fixed m) ds → AllByRecursion (λ d. T (member d fixed)) ds
+    all_listed = all_follow (Fixed m) (λ d. T (member d fixed)) listed
+
     at_code : (a : ℕ) → Code m a → T (both (every (λ d. member d fixed) (m.digits a)) (combined m (m.digits a) m.basis == a))
     at_code a h = at (λ a. both (every (λ d. member d fixed) (m.digits a)) (combined m (m.digits a) m.basis == a)) m.size t3 a h
 
@@ -90,5 +93,5 @@ module _ (m : Meaning) (fixed : List ℕ) where
       digits_fixed = λ a h. fixes (m.digits a) (both_left (every (λ d. member d fixed) (m.digits a)) (combined m (m.digits a) m.basis == a) (at_code a h));
       digits_give = λ a h. eqb→eq _ _ (both_right (every (λ d. member d fixed) (m.digits a)) (combined m (m.digits a) m.basis == a) (at_code a h));
       digits_only = λ a ds h n f e.
-          same_is ds (m.digits (combined m ds m.basis)) (at_rows m.width fixed (λ ds. same ds (m.digits (combined m ds m.basis))) t4 ds n (all_follow (Fixed m) (λ d. T (member d fixed)) listed ds f)) ∙ ap m.digits e;
+          same_is ds (m.digits (combined m ds m.basis)) (at_rows m.width fixed (λ ds. same ds (m.digits (combined m ds m.basis))) t4 ds n (all_listed ds f)) ∙ ap m.digits e;
     }

@@ -1,7 +1,8 @@
 -- The mirror of a lawful kind is lawful.
-use Rattle.std.specs.Prelude.{◌≡◌, ℕ, ◌+◌, ◌-◌, ◌<◌, nat_lt}
+use Rattle.std.specs.Prelude.{◌≡◌, ℕ, ◌+◌, ◌-◌, ◌<◌, nat_lt, List}
 use Rattle.std.proofs.Common.{sym, ap, ◌∙◌, arith}
 use Rattle.std.proofs.lemmas.Bool.{cond_both, ltb-true}
+use Rattle.std.specs.List.{AllByRecursion}
 use Rattle.fields.specs.Lists.{all_follow}
 use Rattle.fields.specs.Meaning.{Meaning, Laws, Code, Fixed}
 use Rattle.fields.specs.Mirror.{mirrored, across}
@@ -33,6 +34,12 @@ module _ (m : Meaning) (l : Laws m) where
   fixed_back : (d : ℕ) → Fixed (mirrored m) d → Fixed m d
   fixed_back d f = (f.0, ap m.twist (sym f.1) ∙ l.twist_untwist d f.0)
 
+  all_there : (ds : List ℕ) → AllByRecursion (Fixed m) ds → AllByRecursion (Fixed (mirrored m)) ds
+  all_there = all_follow (Fixed m) (Fixed (mirrored m)) fixed_there
+
+  all_back : (ds : List ℕ) → AllByRecursion (Fixed (mirrored m)) ds → AllByRecursion (Fixed m) ds
+  all_back = all_follow (Fixed (mirrored m)) (Fixed m) fixed_back
+
   pub mirror_laws : Laws (mirrored m)
   mirror_laws = record {
     number_byte = across_byte m.number l.number_byte;
@@ -62,7 +69,7 @@ module _ (m : Meaning) (l : Laws m) where
     basis_length = l.basis_length;
     basis_codes = l.basis_codes;
     digits_length = l.digits_length;
-    digits_fixed = λ a h. all_follow (Fixed m) (Fixed (mirrored m)) fixed_there (m.digits a) (l.digits_fixed a h);
+    digits_fixed = λ a h. all_there (m.digits a) (l.digits_fixed a h);
     digits_give = l.digits_give;
-    digits_only = λ a ds h n f e. l.digits_only a ds h n (all_follow (Fixed (mirrored m)) (Fixed m) fixed_back ds f) e;
+    digits_only = λ a ds h n f e. l.digits_only a ds h n (all_back ds f) e;
   }
