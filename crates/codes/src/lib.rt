@@ -1,5 +1,5 @@
 // Linearized Reed-Solomon codes over any kind of field: the sheet that describes one, the code that it makes, and what is done
-// with a code.
+// with a code. Kind and code are two arguments: one struct of both, with lawfulness as a fact of it, would ask more of callers.
 #![tactic(auto)]
 
 mod dualizing;

@@ -59,7 +59,8 @@ fn extend(course: &mut Course, parameter: u8, locators: &[u8])
     }
 }
 
-// The points of all blocks, where the locators of each are independent.
+// The points of all blocks, where the locators of each are independent. The three sections stand apart, as bytes, since the promise
+// speaks of their numbers alone.
 fn gather<K: Kind>(
     kind: &K,
     lengths: &[u8],

@@ -1,5 +1,6 @@
 // A code: its dimension, the lengths of its blocks, and a point for each symbol, within the limits of a sheet. The struct stands alone
-// in its file, since specs name it; that its points are lawful over a kind is a predicate there, which whoever makes a code promises.
+// in its file, since specs name it; that its points are lawful over a kind is a predicate there, which whoever makes a code promises: a code
+// holds no kind, so no ghost field can say it.
 ghost use Rattle.std.specs.Prelude.{◌≡◌, ℕ, ◌<◌, ◌≤◌, length, slice_index};
 ghost use Rattle.codes.specs.Holdings.{held, stops};
 ghost use Rattle.ranks.specs.Ranks.{total};

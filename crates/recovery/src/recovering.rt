@@ -59,6 +59,7 @@ fn difference<K: Kind>(kind: &K, word: &[u8], codeword: &Symbols) -> Symbols
     out
 }
 
+// That a word is as long as the code is asked of the private functions, since `recover` tests it once; a type for such words would borrow both.
 // The recovery that a candidate leads to: its codeword, and the difference of the word from that, split with least full errors. Nothing
 // where that costs more than the budget.
 pub fn weighed<K: Kind>(
