@@ -1,6 +1,6 @@
 // Hints in bytes: the row hints after their number, each a block and an element, and the column hints after theirs, each a block,
 // a length and as many coefficients.
-ghost use Rattle.std.specs.Prelude.{◌+◌, length};
+ghost use Rattle.std.specs.Prelude.{◌≡◌, ◌+◌, ◌≤◌, length, OnErr};
 ghost use Rattle.std.specs.Iterator.{at_most};
 
 use crate::splits::split;
@@ -22,8 +22,12 @@ pub enum Hint<'a> {
 }
 
 impl Hint<'_> {
+    ghost use Rattle.cases.specs.Sorts.{sort_of};
+
     // What hints of this sort are called.
-    pub fn sort(&self) -> &'static str {
+    pub fn sort(&self) -> &'static str
+        ensures { result.now ≡ sort_of self.now }
+    {
         match self {
             Hint::Row { .. } => "row",
             Hint::Column { .. } => "column",
@@ -31,7 +35,9 @@ impl Hint<'_> {
     }
 
     // What is said of the hint by those that were taken before.
-    pub fn add_to<K: Kind>(self, kind: &K, code: &Code, hints: &mut Hints) -> Result<(), NotTaken> {
+    pub fn add_to<K: Kind>(self, kind: &K, code: &Code, hints: &mut Hints) -> Result<(), NotTaken>
+        ensures { OnErr result (hints.new ≡ hints.old) }
+    {
         match self {
             Hint::Row { block, element } => hints.add_row(kind, code, block, element),
             Hint::Column {
@@ -60,7 +66,9 @@ fn counted(bytes: &[u8]) -> (u8, &[u8]) {
 
 impl<'a> HintReader<'a> {
     // The hints that these bytes spell, as far as they are there.
-    pub fn new(bytes: &'a [u8]) -> HintReader<'a> {
+    pub fn new(bytes: &'a [u8]) -> HintReader<'a>
+        ensures { length result.rows.now + length result.rest.now ≤ length bytes.now }
+    {
         let (count, rest) = counted(bytes);
         let (rows, rest) = split(rest, 2 * usize::from(count));
         let (columns, rest) = counted(rest);

@@ -38,6 +38,7 @@ fn multipliers<K: Kind>(kind: &K, points: &[Point]) -> Option<Symbols>
     ensures { let m = K.meaning kind.now in let ps = points.now in MatchOption result (Unlawful m ps) (λ s. MultipliersOf m ps (held s)) }
 {
     let mut out = Symbols::empty();
+    // by place, which is what `multiplier` is asked
     for i in 0..points.len() {
         let w = multiplier(kind, points, i)?;
         out.push(w);

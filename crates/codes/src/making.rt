@@ -39,6 +39,7 @@ fn first_related<K: Kind>(kind: &K, parameters: &[u8]) -> Option<usize>
     ensures { let m = K.meaning kind.now in let ps = parameters.now in
         options.MatchOption result (ApartUntil m ps (length ps)) (λ j. (j < length ps) × ApartUntil m ps j × Related m ps j) }
 {
+    // by place, which is what `related` is asked
     for j in 0..parameters.len() {
         if related(kind, parameters, j) {
             return Some(j);

@@ -1,5 +1,5 @@
 // A generator of numbers: 32 bits, of which the top byte is drawn.
-ghost use Rattle.std.specs.Prelude.{◌≡◌, ◌+◌, ◌<◌, ◌≤◌};
+ghost use Rattle.std.specs.Prelude.{◌≡◌, ◌+◌, ◌<◌, ◌≤◌, IsSomeAnd};
 
 use fields::Kind;
 
@@ -35,7 +35,7 @@ impl Random {
 
     // A code other than 0.
     pub fn unit<K: Kind>(&mut self, kind: &K) -> u8
-        ensures { 1 ≤ result }
+        ensures { (1 ≤ result) × (2 ≤ (K.meaning kind.now).size → result < (K.meaning kind.now).size) }
     {
         self.below(kind.size().saturating_sub(1)).saturating_add(1)
     }
@@ -61,6 +61,8 @@ pub struct Drawn<'a, K> {
 
 impl<K: Kind> Iterator for Drawn<'_, K> {
     type Item = u8;
+
+    ghost next_gives = { λ s r t. IsSomeAnd r (λ x. x ≤ (K.Kind.meaning s.kind.now).size) };
 
     fn next(&mut self) -> Option<u8> {
         Some(self.random.symbol(self.kind))

@@ -15,3 +15,4 @@ pub use outcome::Recovery;
 pub use prepared::Prepared;
 pub use preparing::prepare;
 pub use recovering::recover;
+pub use spots::Spots;

@@ -63,7 +63,7 @@ impl Fault {
     }
 }
 
-// The line that every program prints of a refusal.
+// A refusal as a line of text.
 impl fmt::Display for Fault {
     ghost output = { λ f. Some (line_of f) };
 

@@ -1,7 +1,6 @@
 // Lines of the output.
 use crate::rows::Row;
-use codes::Symbols;
-use skew::Polynomial;
+use skew::Few;
 use std::io;
 
 // One line: what the numbers are, and the numbers.
@@ -20,13 +19,7 @@ impl Listed for usize {
     }
 }
 
-impl Listed for Symbols {
-    fn list(&self, rt: &impl Print) -> io::Result<()> {
-        print!(rt; "{}", Row(self.as_slice()))
-    }
-}
-
-impl Listed for Polynomial {
+impl<const N: usize> Listed for Few<u8, N> {
     fn list(&self, rt: &impl Print) -> io::Result<()> {
         print!(rt; "{}", Row(self.as_slice()))
     }

@@ -21,6 +21,7 @@ fn leading<K: Kind>(kind: &K, f: &Polynomial) -> Option<Lead>
     ensures { let m = K.meaning kind.now in let f = coefficients f.entry.now in
         MatchOption result (AllByRecursion (Zero (ops m)) (elems m f)) (λ t. Leads m f t.degree t.inverse) }
 {
+    // from the top, and by degree, which is answered
     for i in (0..f.len()).rev() {
         if let Some(inverse) = kind.inverse(f.get(i)) {
             return Some(Lead { degree: i, inverse });
@@ -58,6 +59,7 @@ pub fn left_quotient<K: Kind>(
     }
     let mut rest = dividend.resized(d + k);
     let mut out = Polynomial::empty().resized(k);
+    // from the top, and by degree: two polynomials are met at places that the degree of the divisor parts
     for j in (0..k).rev() {
         let high = rest.get(d + j);
         let ratio = kind.product(high, top.inverse);
