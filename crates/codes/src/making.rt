@@ -77,6 +77,7 @@ fn gather<K: Kind>(
         MatchResult result (λ c. Gathered m lengths.now parameters.now locators.now (stops c)) (λ e. Breaks m lengths.now locators.now base e) }
 {
     let mut course = Course::empty();
+    // the place among all locators, which a refusal names
     let mut at = 0;
     for (n, parameter) in lengths.iter().zip(parameters) {
         let size = usize::from(*n);

@@ -44,7 +44,7 @@ module _ {F : Type 0} {o : Ops F} (l : Laws o) where
   map_plus T L (x ∷ u) (y ∷ v) = cons_path (L.0 x y) (map_plus T L u v)
 
   -- A sum is cleared part by part.
-  clear_plus : (marks : List Bool) (hs : List (List F)) (u v : List F) → length u ≡ length v → clear o marks hs (plus o u v) ≡ plus o (clear o marks hs u) (clear o marks hs v)
+  pub clear_plus : (marks : List Bool) (hs : List (List F)) (u v : List F) → length u ≡ length v → clear o marks hs (plus o u v) ≡ plus o (clear o marks hs u) (clear o marks hs v)
   clear_plus marks hs u v e =
       ap (λ n. plus o (plus o u v) (map neg (mix o n hs (pick marks (plus o u v))))) (Rows.length_plus l u v ∙ largest)
       ∙ ap (λ w. plus o (plus o u v) (map neg (mix o (length u) hs w))) (Mixing.pick_plus l marks u v e)

@@ -1,4 +1,4 @@
-// The hints that were taken for a word, block by block, and how many of each sort. The struct stands alone in its file, since specs name it.
+// The hints that were taken for a word, block by block, in fixed memory, and how many of each sort. The struct stands alone in its file, since specs name it.
 ghost use Rattle.std.specs.Prelude.{◌≡◌, ◌+◌, ◌≤◌, length};
 
 use super::block::BlockHints;

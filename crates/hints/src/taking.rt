@@ -80,6 +80,8 @@ impl Hints {
         code.dimension + (self.rows + self.columns) >= code.course.len()
     }
 
+    // The two functions end alike, but in the field that they change and count.
+
     // Takes a row hint for a block, counted from 1: an element said to be in the column space of the error there. What is not
     // taken alters nothing.
     pub fn add_row<K: Kind>(

@@ -11,7 +11,7 @@ use Rattle.ranks.specs.Ranks.{pick, IsRank, Weighs, Ranked, total, cut}
 use Rattle.ranks.proofs.Spans
 
 -- No more is picked than there is.
-pick_few : {A : Type 0} (marks : List Bool) (xs : List A) → length (pick marks xs) ≤ length xs
+pub pick_few : {A : Type 0} (marks : List Bool) (xs : List A) → length (pick marks xs) ≤ length xs
 pick_few [] xs = omega arith
 pick_few (b ∷ marks) [] = omega arith
 pick_few (true ∷ marks) (x ∷ xs) = omega (arith, pick_few marks xs)

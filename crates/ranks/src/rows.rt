@@ -13,20 +13,20 @@ use std::array;
 // How many places a row has.
 pub const WIDTH: usize = 8;
 
-// A row is of codes; where fewer than eight places are in use, zeros follow.
-#[derive(Clone, Copy)]
+// A row is of codes, in fixed memory; where fewer than eight places are in use, zeros follow.
+#[derive(Clone, Copy, PartialEq, Eq, Debug)]
 pub struct Row {
     pub cells: [u8; WIDTH],
 }
 
 // The row with its pivot at place p stands at place p. A form is of no kind, so that it is reduced is said of it for each kind.
-#[derive(Clone, Copy)]
+#[derive(Clone, Copy, PartialEq, Eq, Debug)]
 pub struct Form {
     pub rows: [Option<Row>; WIDTH],
 }
 
 // Where a row is not 0, and the inverse of what stands there.
-#[derive(Clone, Copy)]
+#[derive(Clone, Copy, PartialEq, Eq, Debug)]
 struct Pivot {
     place: usize,
     inverse: u8,

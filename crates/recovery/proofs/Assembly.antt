@@ -1,5 +1,5 @@
 -- The candidate is weighed, and given where it is in reach.
-use Rattle.std.proofs.Common.{◌≡◌, ℕ, suc, ◌+◌, ◌*◌, ◌<◌, ◌≤◌, Bool, true, false, List, [], ◌∷◌, map, length, get_or, take, drop, sym, refl, ap, ◌∙◌, subst, arith}
+use Rattle.std.proofs.Common.{◌≡◌, ℕ, suc, ◌+◌, ◌*◌, ◌<◌, ◌≤◌, List, [], ◌∷◌, map, length, get_or, take, drop, sym, refl, ap, ◌∙◌, subst, arith}
 use Rattle.std.proofs.lemmas.List.{length-map}
 use Rattle.std.proofs.lemmas.List.{take_all, take-map, drop-map, length-take}
 use Rattle.std.specs.List.{AllByRecursion}
@@ -16,8 +16,9 @@ use Rattle.skew.proofs.Evaluation
 use Rattle.skew.proofs.Sharpness
 use Rattle.skew.proofs.Sums
 use Rattle.skew.proofs.Sums.{cons_path}
-use Rattle.ranks.specs.Ranks.{pick, total, cut, Weighs}
+use Rattle.ranks.specs.Ranks.{total, cut, Weighs}
 use Rattle.skew.proofs.Filling.{short}
+use Rattle.ranks.proofs.Weighing.{pick_few}
 use Rattle.codes.specs.declared.shape.Code.{Code}
 use Rattle.codes.specs.Holdings.{held, stops}
 use Rattle.codes.specs.Codes.{pts, LawfulCode, word_of}
@@ -36,13 +37,6 @@ use Rattle.hints.proofs.Judging.{places_in}
 pub cut_map : {A B : Type 0} (g : A → B) (ns : List ℕ) (w : List A) → map (map g) (cut ns w) ≡ cut ns (map g w)
 cut_map g [] w = refl
 cut_map g (n ∷ ns) w = cons_path (sym (take-map g n w)) (cut_map g ns (drop n w) ∙ ap (cut ns) (sym (drop-map g n w)))
-
--- Some of a list are no more than all.
-pick_few : {A : Type 0} (marks : List Bool) (xs : List A) → length (pick marks xs) ≤ length xs
-pick_few [] xs = omega arith
-pick_few (b ∷ marks) [] = omega arith
-pick_few (true ∷ marks) (x ∷ xs) = omega (arith, pick_few marks xs)
-pick_few (false ∷ marks) (x ∷ xs) = omega (arith, pick_few marks xs)
 
 -- A word weighs no more than it has symbols.
 pub weighs_few : (m : Meaning) (ns w : List ℕ) (t : ℕ) → Weighs (ops m) (map (elems m) (cut ns w)) t → t ≤ total ns

@@ -5,7 +5,7 @@
 --   Gathered                                how a combination of what is left comes from the locators
 --   weave marks cs us                       one list with us at the marked places and cs at the others
 --   left_lawful                             the blocks that are left are lawful, with a place less for each column hint
-use Rattle.std.proofs.Common.{◌≡◌, suc, ◌+◌ as ◌+ℕ◌, max, Bool, true, false, List, [], ◌∷◌, map, length, sym, refl, ap, ◌∙◌, subst, arith}
+use Rattle.std.proofs.Common.{◌≡◌, suc, ◌+◌ as ◌+ℕ◌, Bool, true, false, List, [], ◌∷◌, map, length, sym, refl, ap, ◌∙◌, subst, arith}
 use Rattle.std.proofs.lemmas.List.{length-map}
 use Rattle.std.specs.List.{AllByRecursion}
 use Rattle.fields.specs.Field.{Ops, Laws, Zero, Fixed, plus, comb}
@@ -14,7 +14,6 @@ use Rattle.fields.specs.Basics.{ring}
 use Rattle.fields.specs.Rows
 use Rattle.skew.specs.Roots.{places, Independent, Apart, Lawful}
 use Rattle.skew.proofs.Evaluation
-use Rattle.skew.proofs.Sums
 use Rattle.ranks.specs.Ranks.{pick, Spanned}
 use Rattle.ranks.specs.Reduction.{count, heads, tails, mix, Pivots}
 use Rattle.ranks.specs.RowSteps.{clear}
@@ -22,6 +21,7 @@ use Rattle.ranks.proofs.Spans
 use Rattle.ranks.proofs.Mixing
 use Rattle.ranks.proofs.Inserting
 use Rattle.hints.specs.Splittings.{column_count}
+pub use Rattle.hints.proofs.Clears.{clear_plus}
 use Rattle.recovery.proofs.Sites.{Site, code, givens, omit, AllReduced, left_code}
 use Rattle.recovery.proofs.Placewise
 
@@ -45,21 +45,6 @@ module _ {F : Type 0} {o : Ops F} (l : Laws o) where
       ∙ ap (λ w. plus o (map T v) (map neg w)) (Placewise.mix_map l T L (length v) hs (pick marks v) k)
       ∙ ap (λ w. plus o (map T v) w) (Placewise.map_neg_map l T L (mix o (length v) hs (pick marks v)))
       ∙ sym (Placewise.map_plus l T L v (map neg (mix o (length v) hs (pick marks v))))
-
-  -- It keeps sums.
-  pub clear_plus : (marks : List Bool) (hs : List (List F)) (u v : List F) → length u ≡ length v → clear o marks hs (plus o u v) ≡ plus o (clear o marks hs u) (clear o marks hs v)
-  clear_plus marks hs u v e =
-      ap (λ n. plus o (plus o u v) (map neg (mix o n hs (pick marks (plus o u v))))) (Rows.length_plus l u v ∙ largest)
-      ∙ ap (λ w. plus o (plus o u v) (map neg (mix o (length u) hs w))) (Mixing.pick_plus l marks u v e)
-      ∙ ap (λ w. plus o (plus o u v) (map neg w)) (Mixing.mix_plus l (length u) hs (pick marks u) (pick marks v))
-      ∙ swap u v (mix o (length u) hs (pick marks u)) (mix o (length u) hs (pick marks v))
-      ∙ ap (λ n. plus o (clear o marks hs u) (plus o v (map neg (mix o n hs (pick marks v))))) e
-    where
-      largest : max (length u) (length v) ≡ length u
-      largest = omega arith
-
-      swap : (p q r s : List F) → plus o (plus o p q) (map neg (plus o r s)) ≡ plus o (plus o p (map neg r)) (plus o q (map neg s))
-      swap p q r s = simp (Placewise.map_plus l neg (Placewise.neg_linear l), Sums.plus_assoc l, Placewise.plus_left_comm l)
 
   -- What spans a list spans what is left of it.
   pub clear_spanned : (marks : List Bool) (hs : List (List F)) (es v : List F) → AllByRecursion (AllByRecursion (Fixed o)) hs → AllByRecursion (Spanned o es) v → AllByRecursion (Spanned o es) (clear o marks hs v)

@@ -131,10 +131,6 @@ module _ {m : Meaning} (l : Laws m) where
   pub rebuilding_ends : {fs : List (List ℕ)} {ys f : List ℕ} {j : ℕ} → length ys ≤ j → Rebuilding m fs ys j f → (ps : List Point) → length ys ≡ length ps → Units m ps fs → Rebuilt m ps ys f
   rebuilding_ends h s ps long units = let part = s.so_far ps long units in record { size = part.size; has = λ i k. part.done i (omega (arith, h, k, long)) k }
 
-  -- No polynomial is collected yet.
-  pub collected_starts : (ps : List Point) {fs : List (List ℕ)} → length fs ≡ 24 → Collected m ps 0 fs
-  collected_starts ps e = record { size = e; each = λ i h. absurd (omega arith) }
-
   -- One more.
   pub collected_goes_on : (ps : List Point) {fs fs' : List (List ℕ)} {f : List ℕ} {j : ℕ} → j < 24 → fs' ≡ set fs j f → UnitAt m ps j f → Collected m ps j fs → Collected m ps (j + 1) fs'
   collected_goes_on ps {fs} {fs'} {f} {j} h e unit s = record {

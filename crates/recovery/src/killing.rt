@@ -34,6 +34,7 @@ pub fn row_points<K: Kind>(kind: &K, code: &Code, hints: &Hints) -> Course
     let points = code.course.as_slice();
     let lengths = code.lengths.as_slice();
     let mut out = Course::empty();
+    // where the block begins among the points, of which only the first is read
     let mut at = 0;
     for (n, block) in lengths.iter().zip(&hints.blocks) {
         add_points(kind, &block.rows, points[at].parameter, &mut out);

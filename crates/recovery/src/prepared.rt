@@ -11,7 +11,7 @@ pub struct Prepared {
     pub top: Polynomial,
     // what that is at each point
     pub values: Symbols,
-    // polynomial j is one at point j and zero at the others of the first k points; a plain array, since the code knows k
+    // polynomial j is one at point j and zero at the others of the first k points; fixed memory, and the code knows k
     pub units: [Polynomial; 24],
     ghost whole: { length units ≡ 24 },
 }

@@ -76,6 +76,7 @@ pub fn left_sites<K: Kind>(
     let points = code.course.as_slice();
     let lengths = code.lengths.as_slice();
     let mut out = Spots::empty();
+    // where the block begins, among points and symbols alike
     let mut at = 0;
     for (n, block) in lengths.iter().zip(&hints.blocks) {
         let end = at + usize::from(*n);

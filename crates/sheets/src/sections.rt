@@ -1,4 +1,5 @@
-// A section: a part of the caller's bytes, borrowed, with the offset at which it stands. The case says what its bytes are.
+// A section: a part of the caller's bytes, borrowed, with the offset at which it stands. The case says what its bytes are, and specs
+// speak of it: one struct for all three would not.
 ghost use Rattle.std.specs.Prelude.{◌≡◌};
 ghost use Rattle.sheets.specs.Sections.{part_of, offset_of};
 

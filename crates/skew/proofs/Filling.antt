@@ -4,7 +4,7 @@
 --   Filling cap X before i cells    the first i cells have the first i codes of X, and the others are as before
 use Rattle.std.proofs.Common.{◌≡◌, ℕ, suc, ◌+◌, ◌<◌, ◌≤◌, List, [], ◌∷◌, ◌++◌, length, get_or, take, set, sym, refl, ap, ◌∙◌, inl, inr, arith, length-set, get_or-set_other, append_assoc, append-nil}
 use Rattle.std.proofs.lemmas.List.{length-map}
-use Rattle.std.proofs.lemmas.List.{take_more, take_more_set, take_all, take_at, length-take, length-take-le, length_push, get_or-map, get_or-take, get_or_past}
+use Rattle.std.proofs.lemmas.List.{take_more, take_more_set, take_all, length-take, length-take-le, get_or-map, get_or-take, get_or_past}
 use Rattle.std.proofs.lemmas.Bool.{cases_lt}
 use Rattle.fields.specs.Elements.{Element, codes}
 use Rattle.skew.specs.declared.few.Few.{Few}
@@ -17,18 +17,6 @@ take_cut (suc n) [] ys = refl
 take_cut (suc n) (x ∷ xs) ys = ap (λ zs. x ∷ zs) (take_cut n xs ys)
 
 module _ {A : Type 0} (cap : ℕ) where
-  -- One more behind those in use.
-  pub pushed : (cells : List A) (n : ℕ) (x : A) → length cells ≡ cap → n < cap → take (n + 1) (set cells n x) ≡ take cap (take n cells ++ x ∷ [])
-  pushed cells n x len h =
-      take_more_set cells n x (omega arith) ∙ sym (take_all cap (take n cells ++ x ∷ []) (omega (arith, length_push (take n cells) x, length-take n cells)))
-
-  -- Where there is no room nothing changes.
-  pub full : (cells : List A) (n : ℕ) (x : A) → length cells ≡ cap → cap ≤ n → take n cells ≡ take cap (take n cells ++ x ∷ [])
-  full cells n x len h = t ∙ sym (ap (λ ys. take cap (ys ++ x ∷ [])) t ∙ take_at cells (x ∷ []) cap len)
-    where
-      t : take n cells ≡ cells
-      t = take_all n cells (omega arith)
-
   -- The first i of a list that fits, and one more.
   pub copied : (f : List A) (d : A) {out out' : List A} {i : ℕ} {x : A} → length f ≤ cap → i < length f → out ≡ take i f → x ≡ get_or f i d → out' ≡ take cap (out ++ x ∷ []) → out' ≡ take (i + 1) f
   copied f d {out} {out'} {i} {x} few h e ex eo =

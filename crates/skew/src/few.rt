@@ -8,6 +8,7 @@ mod changing;
 mod methods;
 mod numbers;
 
+// Clone and Copy are written by hand, since a derive is refused over ghost fields of a generic struct.
 pub struct Few<T, const N: usize> {
     cells: [T; N],
     len: usize,

@@ -18,7 +18,7 @@ pub struct TwoPairs {
 }
 
 // What a site asks for: nothing, or that one of the pairs is the pivot.
-#[derive(Clone, Copy)]
+#[derive(Clone, Copy, PartialEq, Eq, Debug)]
 pub enum Turn {
     Stay,
     First,

@@ -10,7 +10,7 @@ use super::polynomial::{CAPACITY, Polynomial};
 use fields::{Kind, code};
 
 // The degree of a polynomial, and the inverse of its coefficient there.
-#[derive(Clone, Copy)]
+#[derive(Clone, Copy, PartialEq, Eq, Debug)]
 struct Lead {
     degree: usize,
     inverse: u8,
