@@ -17,5 +17,5 @@ pub use encoding::{encode, message};
 pub use lists::{Course, ROOM, SheetBytes, Symbols};
 pub use making::set_up;
 pub use shape::Code;
-pub use syndrome::syndromes;
+pub use syndrome::{product_sum, syndromes};
 pub use writing::write_sheet;

@@ -10,8 +10,8 @@ use super::lists::{ROOM, Symbols};
 use fields::Kind;
 use skew::Point;
 
-// The sum of the products, place by place.
-fn product_sum<K: Kind>(kind: &K, word: &[u8], terms: &Symbols) -> u8
+// The sum of the products, place by place, as far as both reach.
+pub fn product_sum<K: Kind>(kind: &K, word: &[u8], terms: &Symbols) -> u8
     ensures { let m = K.meaning kind.now in result ≡ (comb (ops m) (elems m word.now) (elems m (held terms.now))).code }
 {
     let mut total = 0;

@@ -6,6 +6,7 @@ pub mod Degrees
 pub mod Finding
 pub mod Reencoding
 pub mod FirstPoints
+pub mod Stepping
 pub mod Units
 pub mod Turning
 pub mod Subtracting

@@ -2,7 +2,7 @@
 --
 --   Partly m ps ys j f       f has the first j of the values ys, and is zero at the other points
 --   Rebuilding m fs ys j f   so it is wherever the fs belong to the points
---   Collected m ps j fs      the first j of fs belong to the points
+--   Collected P j xs         of 24 things the first j are as P says
 use Rattle.std.proofs.Common.{◌≡◌, ℕ, ◌+◌, ◌-◌, ◌<◌, ◌≤◌, List, [], map, length, get_or, take, set, replicate, sym, ap, ◌∙◌, subst, ap₂, inl, inr, arith, length-set}
 use Rattle.std.proofs.lemmas.List.{length-map}
 use Rattle.std.proofs.lemmas.List.{get_or-map, get_or-set_same, get_or-set_other, get_or-replicate, get_or_past, length-take-le, length-replicate, take-map}
@@ -28,7 +28,7 @@ use Rattle.codes.specs.Holdings.{held, stops}
 use Rattle.codes.specs.Codes.{LawfulCode, word_of}
 use Rattle.recovery.specs.declared.prepared.Prepared.{Prepared}
 use Rattle.recovery.specs.Steps.{no_point}
-use Rattle.recovery.specs.Preparation.{UnitAt, Units, Rebuilt, Prepares}
+use Rattle.recovery.specs.Preparation.{UnitAt, Stepped, Units, Rebuilt, Prepares}
 use Rattle.recovery.proofs.FirstPoints
 use Rattle.recovery.proofs.FirstPoints.{first_blocks}
 use Rattle.recovery.proofs.Reencoding
@@ -45,9 +45,23 @@ pub record Partly (m : Meaning) (ps : List Point) (ys : List ℕ) (j : ℕ) (f :
 pub record Rebuilding (m : Meaning) (fs : List (List ℕ)) (ys : List ℕ) (j : ℕ) (f : List ℕ) : Type 0 where
   pub so_far : (ps : List Point) → length ys ≡ length ps → Units m ps fs → Partly m ps ys j f
 
-pub record Collected (m : Meaning) (ps : List Point) (j : ℕ) (fs : List (List ℕ)) : Type 0 where
-  pub size : length fs ≡ 24
-  pub each : (i : ℕ) → i < j → UnitAt m ps i (get_or fs i [])
+pub record Collected {A : Type 0} (P : ℕ → A → Type 0) (j : ℕ) (xs : List A) : Type 0 where
+  pub size : length xs ≡ 24
+  pub each : (d : A) (i : ℕ) → i < j → P i (get_or xs i d)
+
+-- One more.
+pub collected_goes_on : {A : Type 0} (P : ℕ → A → Type 0) {xs xs' : List A} {x : A} {j : ℕ} → j < 24 → xs' ≡ set xs j x → P j x → Collected P j xs → Collected P (j + 1) xs'
+collected_goes_on P {xs} {xs'} {x} {j} h e new s = record {
+  size = ap length e ∙ length-set xs j x ∙ s.size;
+  each = λ d i k.
+      subst (P i) (sym (ap (λ ys. get_or ys i d) e))
+      (elim (cases_lt i j) [
+        | inl g ↦ subst (P i) (sym (get_or-set_other xs j i x d (λ e. omega (arith, e, g)))) (s.each d i g)
+        | inr g ↦
+            let same : j ≡ i = omega (arith, k, g) in
+            subst (λ n. P n (get_or (set xs j x) n d)) same (subst (P j) (sym (get_or-set_same xs j x d (omega (arith, h, s.size)))) new)
+      ]);
+}
 
 module _ {F : Type 0} {o : field.Ops F} (l : field.Laws o) where
   -- A value where the new polynomial is zero.
@@ -131,20 +145,6 @@ module _ {m : Meaning} (l : Laws m) where
   pub rebuilding_ends : {fs : List (List ℕ)} {ys f : List ℕ} {j : ℕ} → length ys ≤ j → Rebuilding m fs ys j f → (ps : List Point) → length ys ≡ length ps → Units m ps fs → Rebuilt m ps ys f
   rebuilding_ends h s ps long units = let part = s.so_far ps long units in record { size = part.size; has = λ i k. part.done i (omega (arith, h, k, long)) k }
 
-  -- One more.
-  pub collected_goes_on : (ps : List Point) {fs fs' : List (List ℕ)} {f : List ℕ} {j : ℕ} → j < 24 → fs' ≡ set fs j f → UnitAt m ps j f → Collected m ps j fs → Collected m ps (j + 1) fs'
-  collected_goes_on ps {fs} {fs'} {f} {j} h e unit s = record {
-    size = ap length e ∙ length-set fs j f ∙ s.size;
-    each = λ i k.
-        subst (UnitAt m ps i) (sym (ap (λ gs. get_or gs i []) e))
-        (elim (cases_lt i j) [
-          | inl g ↦ subst (UnitAt m ps i) (sym (get_or-set_other fs j i f [] (λ e. omega (arith, e, g)))) (s.each i g)
-          | inr g ↦
-              let same : j ≡ i = omega (arith, k, g) in
-              subst (λ n. UnitAt m ps n (get_or (set fs j f) n [])) same (subst (UnitAt m ps j) (sym (get_or-set_same fs j f [] (omega (arith, h, s.size)))) unit)
-        ]);
-  }
-
   module _ (c : Code) (law : LawfulCode m c) where
     -- The first points of a code.
     abbrev first : List Point
@@ -190,11 +190,12 @@ module _ {m : Meaning} (l : Laws m) where
 
     -- What `prepare` answers belongs to the code.
     pub prepares : (p : Prepared) → Annihilated m first (coefficients p.top) → held p.values ≡ codes (word_of m c (elems m (coefficients p.top)))
-        → Collected m first c.dimension (map coefficients p.units) → Prepares m c p
-    prepares p kills values all = record {
+        → Collected (UnitAt m first) c.dimension (map coefficients p.units) → Collected (Stepped m (stops c.course)) (length (stops c.course)) p.powers → Prepares m c p
+    prepares p kills values all met = record {
       degree = degree_is (coefficients p.top) kills;
       size = omega (arith, kills.annihilator.degree, length-map (coefficients p.top) (elem m), length-map {B = Elem m × Elem m} first (place m), length_first);
       vanishes = kills.annihilator.vanishes;
       values = values;
-      units = λ j h. all.each j (omega (arith, h, length_first));
+      units = λ j h. all.each [] j (omega (arith, h, length_first));
+      powers = met.each;
     }

@@ -14,13 +14,14 @@ ghost use Rattle.recovery.specs.Reach.{InReach, SpansOnly, Recovered};
 ghost use Rattle.recovery.specs.Candidates.{Candidate};
 
 use super::outcome::Recovery;
+use super::powers::encode_by;
 use super::prepared::Prepared;
-use super::recovering::{recover, weighed};
+use super::recovering::{candidate, weighed};
 use super::spots::Spots;
-use codes::Code;
+use codes::{Code, product_sum};
 use fields::Kind;
 use hints::Hints;
-use skew::{Polynomial, Site, combine, left_quotient, pairs, product, value};
+use skew::{Polynomial, Site, combine, left_quotient, pairs, product};
 
 // The polynomial with the symbols as its values at the points that the units belong to.
 fn rebuilt<K: Kind>(kind: &K, prepared: &Prepared, symbols: &[u8]) -> Polynomial
@@ -30,7 +31,7 @@ fn rebuilt<K: Kind>(kind: &K, prepared: &Prepared, symbols: &[u8]) -> Polynomial
 {
     let mut out = Polynomial::empty();
     for (y, unit) in symbols.iter().zip(&prepared.units) {
-        out = combine(kind, 1, &out, *y, unit);
+        out.cross(kind, 1, *y, unit);
     }
     out
 }
@@ -46,14 +47,14 @@ fn other_sites<K: Kind>(
 ) -> Spots
     requires { length word.now ≡ length (stops code.now.course) }
     ensures { let m = K.meaning kind.now in let c = code.now in
-        ((M : List (Elem m)) → held prepared.now.values ≡ codes (word_of m c M)
+        ((M : List (Elem m)) → held prepared.now.values ≡ codes (word_of m c M) → Prepares m c prepared.now → length (coefficients f.now) ≤ 24
         → spots m (sites_in result) ≡ map (turned (ops m) M (elems m (coefficients f.now))) (drop c.dimension (word_spots (pts m c) (elems m word.now)))) }
 {
     let points = code.course.as_slice();
     let mut out = Spots::empty();
     // by index, since three rows are read at one place
     for i in code.dimension..points.len() {
-        let here = value(kind, f.as_slice(), points[i].parameter, points[i].locator);
+        let here = product_sum(kind, f.as_slice(), &prepared.powers[i]);
         let minus = kind.opposite(here);
         let second = kind.sum(word[i], minus);
         let locator = prepared.values.get(i);
@@ -67,7 +68,7 @@ fn other_sites<K: Kind>(
 }
 
 // The only message whose codeword can be in reach without hints: there always is one.
-fn candidate_by<K: Kind>(
+fn hintless<K: Kind>(
     kind: &K,
     code: &Code,
     prepared: &Prepared,
@@ -87,7 +88,27 @@ fn candidate_by<K: Kind>(
     Some(combine(kind, 1, &near, minus, &off))
 }
 
-// What `recover` gives, with less work where there are no hints.
+// The only message whose codeword can be in reach: there always is one.
+fn candidate_by<K: Kind>(
+    kind: &K,
+    code: &Code,
+    prepared: &Prepared,
+    hints: &Hints,
+    word: &[u8],
+) -> Option<Polynomial>
+    requires { length word.now ≡ length (stops code.now.course) }
+    ensures { let m = K.meaning kind.now in let c = code.now in
+        (LawfulCode m c → Prepares m c prepared.now → (gs : List (Given (Elem m))) → Holds m (held c.lengths) c.dimension hints.now gs
+        → MatchOption result ⊥ (λ f. Candidate m c gs (elems m word.now) (coefficients f))) }
+{
+    if hints.rows + hints.columns > 0 {
+        candidate(kind, code, hints, word)
+    } else {
+        hintless(kind, code, prepared, word)
+    }
+}
+
+// What `recover` gives, with less work.
 pub fn recover_by<K: Kind>(
     kind: &K,
     code: &Code,
@@ -102,12 +123,10 @@ pub fn recover_by<K: Kind>(
         → (gs : List (Given (Elem m))) → Holds m (held c.lengths) c.dimension hints.now gs
         → MatchOption result ((v : List (Elem m)) → ¬ InReach m c gs w v) (λ x. Recovered m c gs w x)) }
 {
-    if hints.rows + hints.columns > 0 {
-        return recover(kind, code, hints, word);
-    }
     if word.len() != code.course.len() {
         return None;
     }
-    let message = candidate_by(kind, code, prepared, word)?;
-    weighed(kind, code, hints, word, &message)
+    let message = candidate_by(kind, code, prepared, hints, word)?;
+    let codeword = encode_by(kind, code, prepared, &message);
+    weighed(kind, code, hints, word, &message, codeword)
 }

@@ -4,6 +4,7 @@
 mod direct;
 mod killing;
 mod outcome;
+mod powers;
 mod prepared;
 mod preparing;
 mod recovering;

@@ -13,5 +13,8 @@ pub struct Prepared {
     pub values: Symbols,
     // polynomial j is one at point j and zero at the others of the first k points; fixed memory, and the code knows k
     pub units: [Polynomial; 24],
+    // what the coefficients of a polynomial meet at each point
+    pub powers: [Symbols; 24],
     ghost whole: { length units ≡ 24 },
+    ghost points: { length powers ≡ 24 },
 }

@@ -3,8 +3,9 @@ ghost use Rattle.std.specs.Prelude.{MatchOption};
 ghost use Rattle.codes.specs.Codes.{LawfulCode};
 ghost use Rattle.recovery.specs.Preparation.{Prepares};
 
+use super::powers::powers_at;
 use super::prepared::Prepared;
-use codes::{Code, encode};
+use codes::{Code, Symbols, encode};
 use fields::Kind;
 use skew::{Polynomial, annihilator, unit};
 
@@ -22,5 +23,14 @@ pub fn prepare<K: Kind>(kind: &K, code: &Code) -> Option<Prepared>
         let f = unit(kind, first, j)?;
         units[j] = f;
     }
-    Some(Prepared { top, values, units })
+    let mut powers = [Symbols::empty(); 24];
+    for (i, p) in points.iter().enumerate() {
+        powers[i] = powers_at(kind, *p);
+    }
+    Some(Prepared {
+        top,
+        values,
+        units,
+        powers,
+    })
 }

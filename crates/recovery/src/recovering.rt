@@ -4,7 +4,7 @@ ghost use Rattle.fields.specs.Field.{plus};
 ghost use Rattle.fields.specs.Elements.{Elem, elems, codes, ops};
 ghost use Rattle.skew.specs.Polynomials.{coefficients};
 ghost use Rattle.codes.specs.Holdings.{held, stops};
-ghost use Rattle.codes.specs.Codes.{LawfulCode};
+ghost use Rattle.codes.specs.Codes.{LawfulCode, word_of};
 ghost use Rattle.hints.specs.Splittings.{Given};
 ghost use Rattle.hints.specs.Holdings.{Holds};
 ghost use Rattle.recovery.specs.Reach.{InReach, SpansOnly, Recovered};
@@ -28,7 +28,7 @@ fn negated<K: Kind>(kind: &K, f: &Polynomial) -> Polynomial
 }
 
 // The only message whose codeword can be in reach: there always is one.
-fn candidate<K: Kind>(kind: &K, code: &Code, hints: &Hints, word: &[u8]) -> Option<Polynomial>
+pub fn candidate<K: Kind>(kind: &K, code: &Code, hints: &Hints, word: &[u8]) -> Option<Polynomial>
     requires { length word.now ≡ length (stops code.now.course) }
     ensures { let m = K.meaning kind.now in let c = code.now in
         (LawfulCode m c → (gs : List (Given (Elem m))) → Holds m (held c.lengths) c.dimension hints.now gs
@@ -60,7 +60,7 @@ fn difference<K: Kind>(kind: &K, word: &[u8], codeword: &Symbols) -> Symbols
 }
 
 // That a word is as long as the code is asked of the private functions, since `recover` tests it once; a type for such words would borrow both.
-// The recovery that a candidate leads to: its codeword, and the difference of the word from that, split with least full errors. Nothing
+// The recovery that a candidate and its codeword lead to: the difference of the word from that, split with least full errors. Nothing
 // where that costs more than the budget.
 pub fn weighed<K: Kind>(
     kind: &K,
@@ -68,13 +68,15 @@ pub fn weighed<K: Kind>(
     hints: &Hints,
     word: &[u8],
     message: &Polynomial,
+    codeword: Symbols,
 ) -> Option<Recovery>
-    requires { length word.now ≡ length (stops code.now.course) }
+    requires same { length word.now ≡ length (stops code.now.course) }
+    requires long { length (held codeword) ≡ length word.now }
     ensures { let m = K.meaning kind.now in let c = code.now in let w = elems m word.now in
         (LawfulCode m c → (gs : List (Given (Elem m))) → Holds m (held c.lengths) c.dimension hints.now gs → Candidate m c gs w (coefficients message.now)
+        → held codeword ≡ codes (word_of m c (elems m (coefficients message.now)))
         → MatchOption result ((v : List (Elem m)) → ¬ InReach m c gs w v) (λ x. Recovered m c gs w x)) }
 {
-    let codeword = encode(kind, code, message.as_slice());
     let rest = difference(kind, word, &codeword);
     let lengths = code.lengths.as_slice();
     let parts = least_splitting(kind, lengths, hints, rest.as_slice());
@@ -105,5 +107,6 @@ pub fn recover<K: Kind>(kind: &K, code: &Code, hints: &Hints, word: &[u8]) -> Op
         return None;
     }
     let message = candidate(kind, code, hints, word)?;
-    weighed(kind, code, hints, word, &message)
+    let codeword = encode(kind, code, message.as_slice());
+    weighed(kind, code, hints, word, &message, codeword)
 }

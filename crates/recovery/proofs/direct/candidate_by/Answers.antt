@@ -1,37 +1,15 @@
-use Rattle.std.proofs.Common.{subst, arith}
+use Rattle.std.proofs.Common.{◌≡◌, ◌+◌, length, sym, subst, arith, MatchOption}
+use Rattle.fields.specs.Elements.{elems}
 use Rattle.skew.specs.Polynomials.{coefficients}
-use Rattle.skew.specs.Pairs.{spots, Held}
-use Rattle.recovery.specs.Sites.{sites_in}
-use Rattle.recovery.proofs.Reaching
+use Rattle.codes.specs.Holdings.{held}
+use Rattle.hints.specs.Splittings.{row_count, column_count}
+use Rattle.recovery.specs.Candidates.{Candidate}
+use Rattle.recovery.proofs.Hintless.{all_none}
 use Rattle.recovery.proofs.direct.candidate_by.Goals as goal
 
-pub returns-in_err-left : goal.returns-in_err-left
-returns-in_err-left g c = λ law prep.
+pub returns-else-hints-gt0 : goal.returns-else-hints-gt0
+returns-else-hints-gt0 g c = λ law prep gs h.
     let m = g.K.Kind.meaning c.args.kind.now in
-    let l = g.met.K.Kind.lawful c.args.kind.now in
-    let near = coefficients c.rebuilt-near.result in
-    let fits =
-    Reaching.left_fits l c.args.code.now c.args.prepared.now c.args.word.now law prep c.requires near (Reaching.reads_first l c.args.code.now c.args.prepared.now c.args.word.now law prep c.requires near c.rebuilt-near.ensures)
-    (sites_in c.other_sites-sites.result) (c.other_sites-sites.ensures _ prep.values) c.in_ok-both.both
-    (subst (λ ss. Held m 0 (spots m ss) c.in_ok-both.both) c.as_slice.ensures c.in_ok-both.ensures.1) in
-    simp c.from_residual-in_err-left.ensures (omega (arith, fits, c.in_err-left.ensures))
-
-pub returns-in_err-off : goal.returns-in_err-off
-returns-in_err-off g c = λ law prep.
-    let m = g.K.Kind.meaning c.args.kind.now in
-    let l = g.met.K.Kind.lawful c.args.kind.now in
-    let near = coefficients c.rebuilt-near.result in
-    simp c.from_residual-in_err-off.ensures
-    (Reaching.divides l c.args.code.now c.args.prepared.now c.args.word.now law prep c.requires near (Reaching.reads_first l c.args.code.now c.args.prepared.now c.args.word.now law prep c.requires near c.rebuilt-near.ensures)
-    (sites_in c.other_sites-sites.result) (c.other_sites-sites.ensures _ prep.values) c.in_ok-both.both
-    (subst (λ ss. Held m 0 (spots m ss) c.in_ok-both.both) c.as_slice.ensures c.in_ok-both.ensures.1) c.in_err-off.ensures)
-
-pub returns : goal.returns
-returns g c = λ law prep.
-    let m = g.K.Kind.meaning c.args.kind.now in
-    let l = g.met.K.Kind.lawful c.args.kind.now in
-    let near = coefficients c.rebuilt-near.result in
-    Reaching.candidate l c.args.code.now c.args.prepared.now c.args.word.now law prep c.requires near (Reaching.reads_first l c.args.code.now c.args.prepared.now c.args.word.now law prep c.requires near c.rebuilt-near.ensures)
-    (sites_in c.other_sites-sites.result) (c.other_sites-sites.ensures _ prep.values) c.in_ok-both.both
-    (subst (λ ss. Held m 0 (spots m ss) c.in_ok-both.both) c.as_slice.ensures c.in_ok-both.ensures.1)
-    (coefficients c.in_ok-left.left) c.in_ok-left.ensures (coefficients c.in_ok-off.off) (coefficients c.combine.result) c.opposite-minus.ensures c.in_ok-off.ensures c.combine.ensures
+    let empty : row_count gs + column_count gs ≡ 0 = omega (arith, h.rows, h.columns) in
+    subst (λ us. MatchOption c.hintless.result ⊥ (λ f. Candidate m c.args.code.now us (elems m c.args.word.now) (coefficients f))) (sym (all_none (length (held c.args.code.now.lengths)) gs h.size empty))
+    (c.hintless.ensures law prep)

@@ -1,3 +1,6 @@
+use Rattle.std.proofs.Common.{ap, ◌∙◌}
+use Rattle.fields.specs.Elements.{elems, codes}
+use Rattle.codes.specs.Codes.{word_of}
 use Rattle.recovery.proofs.Sameness.{spans_only}
 use Rattle.recovery.proofs.recovering.recover.Goals as goal
 
@@ -10,5 +13,7 @@ returns-in_err-message g c = record {
 pub returns : goal.returns
 returns g c = record {
   spans = spans_only (g.met.K.Kind.lawful c.args.kind.now) c.args.code.now c.args.word.now;
-  exact = λ law size gs h. c.weighed.ensures law gs h (c.in_ok-message.ensures law gs h);
+  exact = λ law size gs h.
+      let m = g.K.Kind.meaning c.args.kind.now in
+      c.weighed.ensures law gs h (c.in_ok-message.ensures law gs h) (c.encode-codeword.ensures ∙ ap (λ q. codes (word_of m c.args.code.now (elems m q))) c.as_slice.ensures);
 }
