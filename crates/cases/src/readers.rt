@@ -57,7 +57,9 @@ pub struct HintReader<'a> {
 }
 
 // A number and what follows it; 0 where there is none.
-fn counted(bytes: &[u8]) -> (u8, &[u8]) {
+fn counted(bytes: &[u8]) -> (u8, &[u8])
+    ensures { length result.1.now ≤ length bytes.now }
+{
     match bytes {
         [count, rest @ ..] => (*count, rest),
         [] => (0, bytes),

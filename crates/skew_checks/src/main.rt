@@ -18,15 +18,6 @@ use std::io;
 #[cfg(test)]
 mod tests;
 
-// The first n symbols that are drawn. code_checks has the same for its own list: a trait for the two would be longer.
-fn drawn<K: Kind>(kind: &K, random: &mut Random, n: usize) -> Polynomial {
-    let mut out = Polynomial::empty();
-    for x in random.symbols(kind).take(n) {
-        out.push(x);
-    }
-    out
-}
-
 // As many blocks, each with the basis for its locators and the next power of the generator for its parameter; no more points than
 // a code can have.
 fn course<K: Kind>(heap: Global, kind: &K, plan: Plan) -> Result<Vec<Point>, AllocError>
@@ -73,8 +64,8 @@ fn round<K: Kind>(
     points: &[Point],
 ) -> io::Result<()> {
     let n = points.len();
-    let f = drawn(kind, random, n / 2 + 1);
-    let g = drawn(kind, random, n / 2);
+    let f: Polynomial = random.drawn(kind, n / 2 + 1);
+    let g: Polynomial = random.drawn(kind, n / 2);
     let values: Vec<u8> = points
         .iter()
         .map(|p| value(kind, f.as_slice(), p.parameter, p.locator))
@@ -83,12 +74,12 @@ fn round<K: Kind>(
     if let Some(fg) = product(kind, &f, &g) {
         line(rt, "product", fg.as_slice())?;
         println!(rt; "agree {}", agreeing(kind, points, &fg, &f, &g))?;
-        let wanted = drawn(kind, random, n);
+        let wanted: Polynomial = random.drawn(kind, n);
         let answer = interpolate(kind, points, wanted.as_slice());
         found(rt, "interpolate", answer)?;
         found(rt, "quotient", left_quotient(kind, &fg, &f, n / 2))?;
     }
-    let dividend = drawn(kind, random, n);
+    let dividend: Polynomial = random.drawn(kind, n);
     found(rt, "quotient", left_quotient(kind, &dividend, &f, n / 2))
 }
 
