@@ -9,7 +9,7 @@ use fields::Kind;
 use hints::{Hints, NotTaken};
 
 // One hint on a block.
-#[derive(Clone, Copy)]
+#[derive(Clone, Copy, PartialEq, Eq, Debug)]
 pub enum Hint<'a> {
     Row {
         block: usize,
@@ -49,7 +49,7 @@ impl Hint<'_> {
 }
 
 // The hints that are still to be read: the bytes of the row hints, how many column hints are said to follow, and their bytes.
-#[derive(Clone, Copy)]
+#[derive(Clone, Copy, PartialEq, Eq, Debug)]
 pub struct HintReader<'a> {
     rows: &'a [u8],
     columns: u8,

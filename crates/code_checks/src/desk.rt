@@ -1,6 +1,6 @@
 // What is tried with one code: messages, weights and syndromes.
-use crate::drafts::norm;
 use crate::bytes::shorter;
+use crate::drafts::norm;
 use crate::words::{Words, spoiled};
 use codes::{Code, Course, Symbols, dual_locators, encode, message, syndromes};
 use drills::Random;

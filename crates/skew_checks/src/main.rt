@@ -4,9 +4,8 @@
 
 ghost use Rattle.std.specs.Prelude.{IfOk, ◌≤◌, vec_len};
 
-use brought::Gf256Over16;
-use drills::{Plan, Random};
-use fields::{Gf16, Gf81, Gf256, Kind, Mirror, Mod13};
+use drills::{Plan, Random, Visit, each_kind};
+use fields::Kind;
 use shown::{found, line};
 use skew::{
     MOST, Pair, Point, Polynomial, Site, annihilator, interpolate, left_quotient, pairs, product,
@@ -131,17 +130,18 @@ fn report<K: Kind>(rt: &HostRuntime, kind: &K, plan: Plan) -> io::Result<()> {
     paired(rt, kind, &mut random, points)
 }
 
-// A kind and its mirror.
-fn both<K: Kind + Copy>(rt: &HostRuntime, kind: K, generator: u8, blocks: usize) -> io::Result<()> {
-    let plan = Plan { generator, blocks };
-    report(rt, &kind, plan)?;
-    report(rt, &Mirror { inner: kind }, plan)
+// Where the kinds are reported.
+#[derive(Drop)]
+struct Reporter<'a> {
+    rt: &'a HostRuntime,
+}
+
+impl Visit for Reporter<'_> {
+    fn visit<K: Kind, M: Kind>(&self, kind: &K, _mirror: &M, plan: Plan) -> io::Result<()> {
+        report(self.rt, kind, plan)
+    }
 }
 
 fn main(rt: HostRuntime) -> io::Result<()> {
-    both(&rt, Gf256, 2, 3)?;
-    both(&rt, Gf16, 2, 3)?;
-    both(&rt, Gf81, 3, 2)?;
-    both(&rt, Mod13, 2, 12)?;
-    both(&rt, Gf256Over16, 2, 12)
+    each_kind(&Reporter { rt: &rt })
 }
