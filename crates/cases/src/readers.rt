@@ -9,7 +9,7 @@ use fields::Kind;
 use hints::{Hints, NotTaken};
 
 // One hint on a block.
-#[derive(Clone, Copy)]
+#[derive(Clone, Copy, PartialEq, Eq, Debug)]
 pub enum Hint<'a> {
     Row {
         block: usize,
@@ -49,7 +49,7 @@ impl Hint<'_> {
 }
 
 // The hints that are still to be read: the bytes of the row hints, how many column hints are said to follow, and their bytes.
-#[derive(Clone, Copy)]
+#[derive(Clone, Copy, PartialEq, Eq, Debug)]
 pub struct HintReader<'a> {
     rows: &'a [u8],
     columns: u8,
@@ -57,7 +57,9 @@ pub struct HintReader<'a> {
 }
 
 // A number and what follows it; 0 where there is none.
-fn counted(bytes: &[u8]) -> (u8, &[u8]) {
+fn counted(bytes: &[u8]) -> (u8, &[u8])
+    ensures { length result.1.now ≤ length bytes.now }
+{
     match bytes {
         [count, rest @ ..] => (*count, rest),
         [] => (0, bytes),

@@ -1,5 +1,9 @@
-// Bytes of sheets with a change.
+// Bytes of sheets, and words of codes, with a change.
+ghost use Rattle.std.specs.Prelude.{◌≡◌, ◌-◌, length};
+ghost use Rattle.skew.specs.Few.{held};
+
 use codes::SheetBytes;
+use skew::Few;
 
 // A number that is at most 255, as a byte.
 pub fn byte(n: usize) -> u8 {
@@ -13,50 +17,39 @@ pub fn sheet_of(bytes: &[u8]) -> SheetBytes {
     out
 }
 
+// The numbers without the last.
+pub fn shorter<const N: usize>(numbers: &Few<u8, N>) -> Few<u8, N>
+    ensures { length (held result) ≡ length (held numbers.now) - 1 }
+{
+    numbers.resized(numbers.len().saturating_sub(1))
+}
+
 pub trait Altered {
     // A count, and then as many bytes.
     fn section(&mut self, bytes: &[u8]);
-
-    // The byte at a place; 0 where there is none.
-    fn at(&self, place: usize) -> u8;
 
     // The bytes with another one at a place.
     fn with(&self, place: usize, x: u8) -> Self;
 
     // The bytes with one more.
     fn longer(&self, x: u8) -> Self;
-
-    // The bytes without the last.
-    fn shorter(&self) -> Self;
 }
 
-impl Altered for SheetBytes {
+impl<const N: usize> Altered for Few<u8, N> {
     fn section(&mut self, bytes: &[u8]) {
         self.push(byte(bytes.len()));
         self.append(bytes);
     }
 
-    fn at(&self, place: usize) -> u8 {
-        self.as_slice().get(place).copied().unwrap_or(0)
-    }
-
-    fn with(&self, place: usize, x: u8) -> SheetBytes {
-        let mut out = SheetBytes::empty();
-        for (i, y) in self.as_slice().iter().enumerate() {
-            out.push(if i == place { x } else { *y });
-        }
+    fn with(&self, place: usize, x: u8) -> Self {
+        let mut out = *self;
+        out.put(place, x);
         out
     }
 
-    fn longer(&self, x: u8) -> SheetBytes {
+    fn longer(&self, x: u8) -> Self {
         let mut out = *self;
         out.push(x);
         out
-    }
-
-    fn shorter(&self) -> SheetBytes {
-        let bytes = self.as_slice();
-        let end = bytes.len().saturating_sub(1);
-        sheet_of(&bytes[..end])
     }
 }

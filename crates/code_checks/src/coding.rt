@@ -2,7 +2,7 @@
 use crate::desk::Desk;
 use crate::drafts::Draft;
 use crate::showing::judged;
-use crate::words::{Words, drawn, product_sum};
+use crate::words::{Words, product_sum};
 use codes::{SheetBytes, Symbols, dual_locators, encode, set_up};
 use drills::{Plan, Random};
 use fields::Kind;
@@ -57,7 +57,7 @@ fn turned<K: Kind, M: Kind>(
     let Ok(code) = set_up(mirror, sheet.as_slice()) else {
         return println!(rt; "no dual");
     };
-    let sent = drawn(mirror, random, k);
+    let sent: Symbols = random.drawn(mirror, k);
     let other = encode(mirror, &code, sent.as_slice());
     line(rt, "dual word", other.as_slice())?;
     let good = product_sum(kind, &words.good, &other);

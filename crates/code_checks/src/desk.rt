@@ -1,6 +1,7 @@
 // What is tried with one code: messages, weights and syndromes.
+use crate::bytes::shorter;
 use crate::drafts::norm;
-use crate::words::{Words, cut, drawn, spoiled, zeros};
+use crate::words::{Words, spoiled};
 use codes::{Code, Course, Symbols, dual_locators, encode, message, syndromes};
 use drills::Random;
 use fields::Kind;
@@ -27,7 +28,7 @@ impl<K: Kind> Desk<'_, K> {
 
     pub fn messages(&self, random: &mut Random) -> io::Result<Words> {
         let n = self.code.course.len();
-        let sent = drawn(self.kind, random, self.code.dimension);
+        let sent: Symbols = random.drawn(self.kind, self.code.dimension);
         line(self.rt, "sent", sent.as_slice())?;
         let good = encode(self.kind, self.code, sent.as_slice());
         line(self.rt, "word", good.as_slice())?;
@@ -35,9 +36,9 @@ impl<K: Kind> Desk<'_, K> {
         let place = random.place(n);
         let near = spoiled(self.kind, &good, place, random.unit(self.kind));
         self.read("near", &near)?;
-        let any = drawn(self.kind, random, n);
+        let any: Symbols = random.drawn(self.kind, n);
         self.read("any", &any)?;
-        self.read("short", &cut(&good))?;
+        self.read("short", &shorter(&good))?;
         let long = encode(self.kind, self.code, any.as_slice());
         line(self.rt, "long", long.as_slice())?;
         self.read("message", &long)?;
@@ -53,7 +54,7 @@ impl<K: Kind> Desk<'_, K> {
     // of one symbol too few.
     pub fn weights(&self, random: &mut Random, words: &Words) -> io::Result<()> {
         let n = self.code.course.len();
-        let zero = zeros(n);
+        let zero = Symbols::empty().resized(n);
         let place = random.place(n);
         let sparse = spoiled(self.kind, &zero, place, random.unit(self.kind));
         let place = random.place(n);
@@ -68,7 +69,7 @@ impl<K: Kind> Desk<'_, K> {
         self.weigh("sparse", &sparse)?;
         self.weigh("narrow", &narrow)?;
         self.weigh("zero", &zero)?;
-        self.weigh("short", &cut(&words.any))?;
+        self.weigh("short", &shorter(&words.any))?;
         let all = rank(self.kind, words.any.as_slice());
         println!(self.rt; "ranks {all} {}", rank(self.kind, narrow.as_slice()))
     }
@@ -85,8 +86,8 @@ impl<K: Kind> Desk<'_, K> {
         self.checked(duals, k, &words.good)?;
         self.checked(duals, k, &words.near)?;
         self.checked(duals, k, &words.any)?;
-        self.checked(duals, k, &cut(&words.good))?;
-        self.checked(&cut(duals), k, &words.good)?;
+        self.checked(duals, k, &shorter(&words.good))?;
+        self.checked(&shorter(duals), k, &words.good)?;
         let over = self.code.course.len().saturating_add(1);
         self.checked(duals, over, &words.good)?;
         let none = dual_locators(self.kind, Course::empty().as_slice());

@@ -9,7 +9,7 @@ use shown::{MESSAGE, SECOND_SHEET, SHEET, found, line};
 use std::io;
 
 // How many words have no syndrome other than 0, and the least weight of these without the word 0.
-#[derive(Clone, Copy)]
+#[derive(Clone, Copy, PartialEq, Eq, Debug)]
 struct Tally {
     count: usize,
     least: usize,

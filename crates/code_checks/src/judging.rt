@@ -1,5 +1,5 @@
 // Sheets that are no codes, built by hand from one that is: each refusal at the first and at the last place where it can be.
-use crate::bytes::{Altered, byte};
+use crate::bytes::{Altered, byte, shorter};
 use crate::drafts::{Draft, moved, norm};
 use crate::showing::judged;
 use crate::sweeping::sweeps;
@@ -73,11 +73,11 @@ impl<K: Kind> Judge<'_, K> {
         let good = &b.sheet;
         self.all(&[
             *good,
-            good.shorter(),
+            shorter(good),
             good.longer(0),
             good.with(0, self.kind.number() ^ 128),
             good.with(1, 0),
-            good.with(1, good.at(1).saturating_add(1)),
+            good.with(1, good.get(1).saturating_add(1)),
             SheetBytes::empty(),
         ])
     }
@@ -106,7 +106,7 @@ impl<K: Kind> Judge<'_, K> {
         let good = &b.sheet;
         let second = b.parameter.saturating_add(1);
         let near = moved(self.kind, c, 1);
-        let before = good.at(b.last_parameter.saturating_sub(1));
+        let before = good.get(b.last_parameter.saturating_sub(1));
         self.all(&[
             good.with(second, 1),
             good.with(second, near),
@@ -114,7 +114,7 @@ impl<K: Kind> Judge<'_, K> {
             good.with(b.last_parameter, 1),
             good.with(b.last_parameter, near),
             good.with(b.last_parameter, moved(self.kind, c, before)),
-            good.with(b.parameter, good.at(b.last_parameter)),
+            good.with(b.parameter, good.get(b.last_parameter)),
             good.with(b.last_parameter, near).with(b.locator, 0),
         ])
     }
@@ -123,11 +123,11 @@ impl<K: Kind> Judge<'_, K> {
     fn sevens(&self, b: &Base, fixed: u8) -> io::Result<()> {
         let good = &b.sheet;
         let second = b.locator.saturating_add(1);
-        let before = good.at(b.last_locator.saturating_sub(1));
+        let before = good.get(b.last_locator.saturating_sub(1));
         let back = self.kind.width().saturating_sub(1);
-        let begin = good.at(b.last_locator.saturating_sub(back));
+        let begin = good.get(b.last_locator.saturating_sub(back));
         let sum = self.kind.sum(self.kind.product(fixed, before), begin);
-        let multiple = self.kind.product(fixed, good.at(b.locator));
+        let multiple = self.kind.product(fixed, good.get(b.locator));
         self.all(&[
             good.with(b.locator, 0),
             good.with(second, 0),

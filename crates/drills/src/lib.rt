@@ -3,12 +3,14 @@
 #![tactic(auto)]
 
 mod checksum;
+mod kinds;
 mod lines;
 mod plan;
 mod random;
 mod words;
 
 pub use checksum::Checksum;
+pub use kinds::{Visit, each_kind};
 pub use lines::numbers;
 pub use plan::Plan;
 pub use random::{Drawn, Random};

@@ -1,7 +1,9 @@
 // A generator of numbers: 32 bits, of which the top byte is drawn.
-ghost use Rattle.std.specs.Prelude.{◌≡◌, ◌+◌, ◌<◌, ◌≤◌, IsSomeAnd};
+ghost use Rattle.std.specs.Prelude.{◌≡◌, ◌+◌, ◌<◌, ◌≤◌, IsSomeAnd, length, min};
+ghost use Rattle.skew.specs.Few.{held};
 
 use fields::Kind;
+use skew::Few;
 
 #[derive(Drop)]
 pub struct Random {
@@ -50,6 +52,17 @@ impl Random {
     // Drawn of the kind, one after the other, without end.
     pub fn symbols<'a, K: Kind>(&'a mut self, kind: &'a K) -> Drawn<'a, K> {
         Drawn { random: self, kind }
+    }
+
+    // The first n symbols that are drawn, as far as they fit.
+    pub fn drawn<K: Kind, const N: usize>(&mut self, kind: &K, n: usize) -> Few<u8, N>
+        ensures { length (held result) ≡ min N n }
+    {
+        let mut out = Few::empty();
+        for _i in 0..n {
+            out.push(self.symbol(kind));
+        }
+        out
     }
 }
 

@@ -2,9 +2,8 @@
 // mirrors. What it prints is held to what an unrelated computation printed (reference/fields.py).
 #![tactic(auto)]
 
-use brought::Gf256Over16;
-use drills::Checksum;
-use fields::{Gf16, Gf81, Gf256, Kind, Mirror, Mod13};
+use drills::{Checksum, Plan, Visit, each_kind};
+use fields::Kind;
 use std::io;
 
 // The check sum over what an operation gives at every pair of bytes.
@@ -72,16 +71,18 @@ fn report<K: Kind>(rt: &impl Print, kind: &K) -> io::Result<()> {
     println!(rt; "digits {}", digits(kind))
 }
 
-// A kind and its mirror.
-fn both<K: Kind + Copy>(rt: &impl Print, kind: K) -> io::Result<()> {
-    report(rt, &kind)?;
-    report(rt, &Mirror { inner: kind })
+// Where the operations are reported.
+#[derive(Drop)]
+struct Reporter<'a> {
+    rt: &'a HostRuntime,
+}
+
+impl Visit for Reporter<'_> {
+    fn visit<K: Kind, M: Kind>(&self, kind: &K, _mirror: &M, _plan: Plan) -> io::Result<()> {
+        report(self.rt, kind)
+    }
 }
 
 fn main(rt: HostRuntime) -> io::Result<()> {
-    both(&rt, Gf256)?;
-    both(&rt, Gf16)?;
-    both(&rt, Gf81)?;
-    both(&rt, Mod13)?;
-    both(&rt, Gf256Over16)
+    each_kind(&Reporter { rt: &rt })
 }

@@ -7,7 +7,7 @@ use recovery::recover;
 use std::io;
 
 // How many words there are of each sort, and a check sum over what is recovered.
-#[derive(Clone, Copy)]
+#[derive(Clone, Copy, PartialEq, Eq, Debug)]
 struct Tally {
     clean: u32,
     single: u32,

@@ -4,14 +4,12 @@
 use codes::{Code, encode, set_up};
 use fields::{Kind, Mod13};
 use rescue::rescue;
-use shown::{MESSAGE, SHEET, damaged, line};
+use shown::{DAMAGE, MESSAGE, SHEET, damaged, line, refused};
 use std::io;
 
 mod rescue;
 
-// What is added to the word: to one symbol, and to two.
-const DAMAGE: [u8; 4] = [0, 1, 0, 0];
-
+// What is added to two symbols of the word.
 const MORE: [u8; 4] = [0, 1, 1, 0];
 
 fn travel<K: Kind>(rt: &impl Print, kind: &K, code: &Code) -> io::Result<()> {
@@ -28,7 +26,6 @@ fn travel<K: Kind>(rt: &impl Print, kind: &K, code: &Code) -> io::Result<()> {
 fn main(rt: HostRuntime) -> io::Result<()> {
     match set_up(&Mod13, &SHEET) {
         Ok(code) => travel(&rt, &Mod13, &code),
-        // Not the line of a fault: a tour leaves the layer out.
-        Err(fault) => println!(&rt; "refused {} at place {}", fault.number(), fault.place),
+        Err(fault) => refused(&rt, fault),
     }
 }

@@ -14,6 +14,9 @@ pub const SECOND_SHEET: [u8; 13] = [2, 2, 2, 2, 2, 2, 1, 2, 4, 1, 2, 1, 2];
 // A message for the first code.
 pub const MESSAGE: [u8; 2] = [5, 3];
 
+// What the tours add to the second symbol of the first code's word.
+pub const DAMAGE: [u8; 4] = [0, 1, 0, 0];
+
 // The word plus the damage, symbol by symbol: as long as the damage, up to 24.
 pub fn damaged<K: Kind>(kind: &K, word: &Symbols, damage: &[u8]) -> Symbols
     ensures { length (held result) ≡ min 24 (length damage.now) }

@@ -5,6 +5,6 @@ mod documents;
 mod lines;
 mod rows;
 
-pub use documents::{MESSAGE, SECOND_SHEET, SHEET, damaged};
-pub use lines::{Listed, found, line};
+pub use documents::{DAMAGE, MESSAGE, SECOND_SHEET, SHEET, damaged};
+pub use lines::{Listed, found, line, refused};
 pub use rows::{Places, Row};

@@ -1,11 +1,17 @@
 // Lines of the output.
 use crate::rows::Row;
+use sheets::Fault;
 use skew::Few;
 use std::io;
 
 // One line: what the numbers are, and the numbers.
 pub fn line(rt: &impl Print, name: &str, numbers: &[u8]) -> io::Result<()> {
     println!(rt; "{name}{}", Row(numbers))
+}
+
+// One line: a sheet is refused. Not the line of a fault: a tour leaves the layer out.
+pub fn refused(rt: &impl Print, fault: Fault) -> io::Result<()> {
+    println!(rt; "refused {} at place {}", fault.number(), fault.place)
 }
 
 // What is printed as numbers, a space before each.

@@ -5,7 +5,7 @@ ghost use Rattle.shown.specs.Rows.{number_text, point_text};
 use skew::Point;
 use std::fmt;
 
-#[derive(Clone, Copy)]
+#[derive(Clone, Copy, PartialEq, Eq, Debug)]
 pub struct Row<'a>(pub &'a [u8]);
 
 impl fmt::Display for Row<'_> {
@@ -20,7 +20,7 @@ impl fmt::Display for Row<'_> {
 }
 
 // Each point as its parameter and its locator.
-#[derive(Clone, Copy)]
+#[derive(Clone, Copy, PartialEq, Eq, Debug)]
 pub struct Places<'a>(pub &'a [Point]);
 
 impl fmt::Display for Places<'_> {

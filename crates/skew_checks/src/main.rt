@@ -4,9 +4,8 @@
 
 ghost use Rattle.std.specs.Prelude.{IfOk, ◌≤◌, vec_len};
 
-use brought::Gf256Over16;
-use drills::{Plan, Random};
-use fields::{Gf16, Gf81, Gf256, Kind, Mirror, Mod13};
+use drills::{Plan, Random, Visit, each_kind};
+use fields::Kind;
 use shown::{found, line};
 use skew::{
     MOST, Pair, Point, Polynomial, Site, annihilator, interpolate, left_quotient, pairs, product,
@@ -17,15 +16,6 @@ use std::io;
 
 #[cfg(test)]
 mod tests;
-
-// The first n symbols that are drawn. code_checks has the same for its own list: a trait for the two would be longer.
-fn drawn<K: Kind>(kind: &K, random: &mut Random, n: usize) -> Polynomial {
-    let mut out = Polynomial::empty();
-    for x in random.symbols(kind).take(n) {
-        out.push(x);
-    }
-    out
-}
 
 // As many blocks, each with the basis for its locators and the next power of the generator for its parameter; no more points than
 // a code can have.
@@ -73,8 +63,8 @@ fn round<K: Kind>(
     points: &[Point],
 ) -> io::Result<()> {
     let n = points.len();
-    let f = drawn(kind, random, n / 2 + 1);
-    let g = drawn(kind, random, n / 2);
+    let f: Polynomial = random.drawn(kind, n / 2 + 1);
+    let g: Polynomial = random.drawn(kind, n / 2);
     let values: Vec<u8> = points
         .iter()
         .map(|p| value(kind, f.as_slice(), p.parameter, p.locator))
@@ -83,12 +73,12 @@ fn round<K: Kind>(
     if let Some(fg) = product(kind, &f, &g) {
         line(rt, "product", fg.as_slice())?;
         println!(rt; "agree {}", agreeing(kind, points, &fg, &f, &g))?;
-        let wanted = drawn(kind, random, n);
+        let wanted: Polynomial = random.drawn(kind, n);
         let answer = interpolate(kind, points, wanted.as_slice());
         found(rt, "interpolate", answer)?;
         found(rt, "quotient", left_quotient(kind, &fg, &f, n / 2))?;
     }
-    let dividend = drawn(kind, random, n);
+    let dividend: Polynomial = random.drawn(kind, n);
     found(rt, "quotient", left_quotient(kind, &dividend, &f, n / 2))
 }
 
@@ -140,17 +130,18 @@ fn report<K: Kind>(rt: &HostRuntime, kind: &K, plan: Plan) -> io::Result<()> {
     paired(rt, kind, &mut random, points)
 }
 
-// A kind and its mirror.
-fn both<K: Kind + Copy>(rt: &HostRuntime, kind: K, generator: u8, blocks: usize) -> io::Result<()> {
-    let plan = Plan { generator, blocks };
-    report(rt, &kind, plan)?;
-    report(rt, &Mirror { inner: kind }, plan)
+// Where the kinds are reported.
+#[derive(Drop)]
+struct Reporter<'a> {
+    rt: &'a HostRuntime,
+}
+
+impl Visit for Reporter<'_> {
+    fn visit<K: Kind, M: Kind>(&self, kind: &K, _mirror: &M, plan: Plan) -> io::Result<()> {
+        report(self.rt, kind, plan)
+    }
 }
 
 fn main(rt: HostRuntime) -> io::Result<()> {
-    both(&rt, Gf256, 2, 3)?;
-    both(&rt, Gf16, 2, 3)?;
-    both(&rt, Gf81, 3, 2)?;
-    both(&rt, Mod13, 2, 12)?;
-    both(&rt, Gf256Over16, 2, 12)
+    each_kind(&Reporter { rt: &rt })
 }

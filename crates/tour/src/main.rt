@@ -5,11 +5,8 @@
 use codes::{Code, Symbols, dual_locators, dual_sheet, encode, message, set_up, syndromes};
 use fields::{Kind, Mod13};
 use ranks::weight;
-use shown::{MESSAGE, Places, SHEET, damaged, line};
+use shown::{DAMAGE, MESSAGE, Places, SHEET, damaged, line, refused};
 use std::io;
-
-// What is added to the second symbol of the word.
-const DAMAGE: [u8; 4] = [0, 1, 0, 0];
 
 fn show<K: Kind>(rt: &impl Print, kind: &K, code: &Code) -> io::Result<()> {
     println!(rt;
@@ -69,7 +66,6 @@ fn main(rt: HostRuntime) -> io::Result<()> {
     line(&rt, "sheet", &SHEET)?;
     match set_up(&Mod13, &SHEET) {
         Ok(code) => travel(&rt, &Mod13, &code),
-        // Not the line of a fault: a tour leaves the layer out.
-        Err(fault) => println!(&rt; "refused {} at place {}", fault.number(), fault.place),
+        Err(fault) => refused(&rt, fault),
     }
 }
