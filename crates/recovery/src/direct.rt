@@ -31,7 +31,7 @@ fn rebuilt<K: Kind>(kind: &K, prepared: &Prepared, symbols: &[u8]) -> Polynomial
 {
     let mut out = Polynomial::empty();
     for (y, unit) in symbols.iter().zip(&prepared.units) {
-        out.cross(kind, 1, *y, unit);
+        out.gain(kind, *y, unit);
     }
     out
 }

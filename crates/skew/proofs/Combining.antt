@@ -1,4 +1,4 @@
--- The loops of `cross` and `raise`, which change the first n of the cells that stand before, over plain numbers.
+-- The loops of `cross`, `gain` and `raise`, which change the first n of the cells that stand before, over plain numbers.
 --
 --   Combining    the sum of two multiples, after i coefficients
 --   Raising      x - c times what stands there, after i coefficients; `below` is the twisted coefficient below the i-th
@@ -56,22 +56,37 @@ module _ {m : Meaning} (l : Laws m) where
   pub combine_starts : {cap c d n : ℕ} {before g : List ℕ} → length before ≡ cap → Combining cap m c d n before g 0 n before
   combine_starts h = record { filling = unfilled h; kept = refl }
 
-  -- One coefficient more.
-  pub combine_goes_on : {cap c d i n k len a b p q y : ℕ} {before g cells : List ℕ} → k ≡ max (length (take n before)) (length g)
-      → i < k → i < cap → Combining cap m c d n before g i len cells
-      → a ≡ get_or (take len cells) i 0 → p ≡ m.product (clip m c) (clip m a) → b ≡ get_or g i 0 → q ≡ m.product (clip m d) (clip m b)
-      → y ≡ m.sum (clip m p) (clip m q) → Combining cap m c d n before g (i + 1) len (set cells i y)
-  combine_goes_on {cap} {c} {d} {i} {n} {k} {len} {a} {b} {p} {q} {y} {before} {g} {cells} ek h few held ea ep eb eq ey =
-      let e0 : a ≡ get_or (take n before) i 0 = ea ∙ ap (λ z. get_or (take z cells) i 0) held.kept ∙ same_cell n before cells i (held.filling.old i (omega arith)) in
+  -- What `cross` puts at a place, and `gain`.
+  pub crossed : (c d a b : ℕ) {p q y : ℕ} → p ≡ m.product (clip m c) (clip m a) → q ≡ m.product (clip m d) (clip m b) → y ≡ m.sum (clip m p) (clip m q)
+      → (clip m y ≡ y) × (elem m y ≡ (ops m).add ((ops m).mul (elem m c) (elem m a)) ((ops m).mul (elem m d) (elem m b)))
+  crossed c d a b {p} {q} {y} ep eq ey =
       let e1 = Carrier.multiplies m c a ep in
       let e2 = Carrier.multiplies m d b eq in
       let e3 = Carrier.sums m p q ey in
+      (Carrier.sum_counts l p q ey, cc)
+
+  pub gained : (d a b : ℕ) {q y : ℕ} → q ≡ m.product (clip m d) (clip m b) → y ≡ m.sum (clip m a) (clip m q)
+      → (clip m y ≡ y) × (elem m y ≡ (ops m).add ((ops m).mul (elem m 1) (elem m a)) ((ops m).mul (elem m d) (elem m b)))
+  gained d a b {q} {y} eq ey =
+      let e2 = Carrier.multiplies m d b eq in
+      let e3 = Carrier.sums m a q ey in
+      let one = Carrier.one_is m in
+      let e1 = Basics.one_mul laws (elem m a) in
+      (Carrier.sum_counts l a q ey, cc)
+
+  -- One coefficient more.
+  pub combine_goes_on : {cap c d i n k len a b y : ℕ} {before g cells : List ℕ} → k ≡ max (length (take n before)) (length g)
+      → i < k → i < cap → Combining cap m c d n before g i len cells → a ≡ get_or (take len cells) i 0 → b ≡ get_or g i 0
+      → (clip m y ≡ y) × (elem m y ≡ (ops m).add ((ops m).mul (elem m c) (elem m a)) ((ops m).mul (elem m d) (elem m b))) → Combining cap m c d n before g (i + 1) len (set cells i y)
+  combine_goes_on {cap} {c} {d} {i} {n} {k} {len} {a} {b} {y} {before} {g} {cells} ek h few held ea eb ey =
+      let e0 : a ≡ get_or (take n before) i 0 = ea ∙ ap (λ z. get_or (take z cells) i 0) held.kept ∙ same_cell n before cells i (held.filling.old i (omega arith)) in
+      let e3 = ey.1 in
       let fa = Carrier.elem_at m (take n before) i in
       let gb = Carrier.elem_at m g i in
       let w = coef_combined laws (elem m c) (elem m d) (elems m (take n before)) (elems m g) i in
       let e : elem m y ≡ coef (ops m) (combined m c (take n before) d g) i = cc in
       record {
-        filling = fill (ops m).zero (omega (arith, length_is c d (take n before) g)) few held.filling (Carrier.answers _ (Carrier.sum_counts l p q ey) e);
+        filling = fill (ops m).zero (omega (arith, length_is c d (take n before) g)) few held.filling (Carrier.answers _ ey.0 e);
         kept = held.kept;
       }
 

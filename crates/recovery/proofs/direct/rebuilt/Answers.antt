@@ -18,7 +18,7 @@ loop-y-preserved g c =
     rw (length_push c.loop-y.yielded (c.in-Some.y, c.in-Some.unit))
     (rebuilding_goes_on (g.met.K.Kind.lawful c.args.kind.now) t.0
     (ap coefficients (t.3 u) ∙ sym (get_or-map coefficients c.args.prepared.now.units (length c.loop-y.yielded) u _ t.1))
-    (c.cross.ensures ∙ ap (λ s. codes (combined m 1 (coefficients c.loop-y.out) s (coefficients u))) (t.2 0)) c.loop-y.invariant)
+    (c.gain.ensures ∙ ap (λ s. codes (combined m 1 (coefficients c.loop-y.out) s (coefficients u))) (t.2 0)) c.loop-y.invariant)
 
 pub returns : goal.returns
 returns g c =
