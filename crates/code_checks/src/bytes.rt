@@ -2,13 +2,8 @@
 ghost use Rattle.std.specs.Prelude.{◌≡◌, ◌-◌, length};
 ghost use Rattle.skew.specs.Few.{held};
 
-use codes::SheetBytes;
+use codes::{SheetBytes, byte};
 use skew::Few;
-
-// A number that is at most 255, as a byte.
-pub fn byte(n: usize) -> u8 {
-    u8::try_from(n).unwrap_or(u8::MAX)
-}
 
 // The sheet with these bytes.
 pub fn sheet_of(bytes: &[u8]) -> SheetBytes {

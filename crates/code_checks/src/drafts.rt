@@ -1,6 +1,6 @@
 // Codes, as sheets are made of them.
-use crate::bytes::{Altered, byte};
-use codes::{SheetBytes, Symbols};
+use crate::bytes::Altered;
+use codes::{SheetBytes, Symbols, byte};
 use drills::{Plan, Random};
 use fields::Kind;
 

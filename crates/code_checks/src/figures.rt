@@ -35,7 +35,7 @@ impl Tally {
 fn tallied<K: Kind>(rt: &impl Print, kind: &K, code: &Code, duals: &Symbols) -> io::Result<()> {
     let mut tally = Tally {
         count: 0,
-        least: 255,
+        least: code.course.len(),
     };
     each_word(kind, |word| tally.take(kind, code, duals, &word));
     println!(rt; "codewords {} weigh {}", tally.count, tally.least)

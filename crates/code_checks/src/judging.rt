@@ -1,9 +1,9 @@
 // Sheets that are no codes, built by hand from one that is: each refusal at the first and at the last place where it can be.
-use crate::bytes::{Altered, byte, shorter};
+use crate::bytes::{Altered, shorter};
 use crate::drafts::{Draft, moved, norm};
 use crate::showing::judged;
 use crate::sweeping::sweeps;
-use codes::SheetBytes;
+use codes::{SheetBytes, byte};
 use drills::Plan;
 use fields::Kind;
 use std::io;

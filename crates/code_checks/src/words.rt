@@ -16,10 +16,3 @@ pub fn spoiled<K: Kind>(kind: &K, word: &Symbols, place: usize, x: u8) -> Symbol
     out.put(place, kind.sum(word.get(place), x));
     out
 }
-
-pub fn product_sum<K: Kind>(kind: &K, a: &Symbols, b: &Symbols) -> u8 {
-    a.as_slice()
-        .iter()
-        .zip(b.as_slice())
-        .fold(0, |sum, (x, y)| kind.sum(sum, kind.product(*x, *y)))
-}

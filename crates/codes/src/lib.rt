@@ -1,5 +1,5 @@
 // Linearized Reed-Solomon codes over any kind of field: the sheet that describes one, the code that it makes, and what is done
-// with a code. Kind and code are two arguments: one struct of both, with lawfulness as a fact of it, would ask more of callers.
+// with a code. Kind and code are two arguments: one struct of both would say nothing that a clause does not, and with lawfulness as a fact of it ask more of callers.
 #![tactic(auto)]
 
 mod dualizing;
@@ -18,4 +18,4 @@ pub use lists::{Course, ROOM, SheetBytes, Symbols};
 pub use making::set_up;
 pub use shape::Code;
 pub use syndrome::{product_sum, syndromes};
-pub use writing::write_sheet;
+pub use writing::{byte, write_sheet};

@@ -22,6 +22,7 @@ fn parameters_of(code: &Code) -> Symbols
     let points = code.course.as_slice();
     let lengths = code.lengths.as_slice();
     let mut out = Symbols::empty();
+    // where the block begins among the points, of which only the first is read
     let mut at: usize = 0;
     for n in lengths {
         let parameter = parameter_at(points, at);
@@ -44,7 +45,7 @@ fn locators_of(code: &Code) -> Symbols
 }
 
 // A number that is at most 255, as a byte.
-fn byte(n: usize) -> u8
+pub fn byte(n: usize) -> u8
     ensures { n ≤ 255 → result ≡ n }
 {
     u8::try_from(n).unwrap_or(255)

@@ -6,7 +6,7 @@ use brought::Gf256Over16;
 use fields::{Gf16, Gf81, Gf256, Kind, Mirror, Mod13};
 use std::io;
 
-// What is done with a kind and its mirror: blocks of the plan that are as long as they can be fit in a code.
+// What is done with a kind and its mirror, by a type of each program, since a closure is of one kind alone: blocks of the plan that are as long as they can be fit in a code.
 pub trait Visit: Drop {
     fn visit<K: Kind, M: Kind>(&self, kind: &K, mirror: &M, plan: Plan) -> io::Result<()>
         requires { (K.meaning kind.now).width * plan.blocks ≤ 24 };

@@ -1,8 +1,8 @@
 -- The codes of a lawful kind, and elements, as far as the laws of kinds rest on them.
 --
 --   carried m    the operations of a kind on its elements, as `ops` of `Elements` has them, under a name of their own: what shows that
---                a kind keeps its laws does not rest on what contracts cite. With `ops` here too, a wrong `ops` would leave laws in
---                specs unread, where now a proof refuses it.
+--                a kind keeps its laws does not rest on what contracts cite. Laws of an impl may cite nothing but its own specs;
+--                with one definition, which was tried, a wrong `ops` leaves them unread, where now a proof refuses it.
 use Rattle.std.specs.Prelude.{◌≡◌, ℕ, ◌<◌, cond, ◌≢◌, List, [], ◌∷◌, map, nat_lt}
 use Rattle.std.proofs.Math.Path.{refl, sym, ap}
 use Rattle.std.proofs.Common.{◌∙◌, subst, inl, inr, arith}

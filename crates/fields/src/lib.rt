@@ -77,7 +77,8 @@ pub fn code<K: Kind>(kind: &K, a: u8) -> u8
     if (a as u16) < kind.size() { a } else { 0 }
 }
 
-// The same where the number of elements is known as the program is compiled.
+// The same where the number of elements is known as the program is compiled; that of a kind is known as it runs. Whether a symbol is a code is one
+// comparison wherever it is asked, which a function would not make plainer.
 fn clipped<const SIZE: u8>(a: u8) -> u8
     requires { 0 < SIZE }
     ensures value { result ≡ (if nat_lt a SIZE then a else 0) }

@@ -3,7 +3,7 @@
 // would have to say for each place that it is small.
 ghost use Rattle.std.specs.Prelude.{◌<◌};
 
-#[derive(Clone, Copy)]
+#[derive(Clone, Copy, PartialEq, Eq, Debug)]
 pub struct Trits {
     pub c0: u8,
     pub c1: u8,

@@ -2,7 +2,7 @@
 // with zeros behind.
 use ranks::Form;
 
-#[derive(Clone, Copy)]
+#[derive(Clone, Copy, PartialEq, Eq, Debug)]
 pub struct BlockHints {
     pub rows: Form,
     pub columns: Form,

@@ -1,4 +1,5 @@
-// Hints on where a word is wrong, and the splitting of a difference by them.
+// Hints on where a word is wrong, and the splitting of a difference by them. That hints stand for given ones, `Holds`, is a premise of what is
+// promised with them: it joins a value of no kind with rows over the elements of one, which no ghost field can say.
 #![tactic(auto)]
 
 mod block;

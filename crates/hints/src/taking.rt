@@ -80,7 +80,7 @@ impl Hints {
         code.dimension + (self.rows + self.columns) >= code.course.len()
     }
 
-    // The two functions end alike, but in the field that they change and count.
+    // The two functions end alike, but write two fields of a block and two counts; a function of both would be told which.
 
     // Takes a row hint for a block, counted from 1: an element said to be in the column space of the error there. What is not
     // taken alters nothing.

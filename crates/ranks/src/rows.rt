@@ -19,7 +19,7 @@ pub struct Row {
     pub cells: [u8; WIDTH],
 }
 
-// The row with its pivot at place p stands at place p. A form is of no kind, so that it is reduced is said of it for each kind.
+// The row with its pivot at place p stands at place p, in fixed memory. A form is of no kind, so that it is reduced is said of it for each kind.
 #[derive(Clone, Copy, PartialEq, Eq, Debug)]
 pub struct Form {
     pub rows: [Option<Row>; WIDTH],
@@ -43,7 +43,7 @@ fn combined<K: Kind>(kind: &K, a: &Row, c: u8, b: &Row) -> Row
     })
 }
 
-// The first place where a row is not 0; nothing where it is 0 everywhere.
+// The first place where a row is not 0; nothing where it is 0 everywhere. A loop, since the library has no lemma on `find_map`.
 fn leading<K: Kind>(kind: &K, row: &Row) -> Option<Pivot>
     ensures { let m = K.meaning kind.now in let h = row_of m row.now in
         MatchOption result (AllByRecursion (Zero (ops m)) h) (λ t. PivotAt m h t.place t.inverse) }

@@ -68,12 +68,7 @@ fn other_sites<K: Kind>(
 }
 
 // The only message whose codeword can be in reach without hints: there always is one.
-fn hintless<K: Kind>(
-    kind: &K,
-    code: &Code,
-    prepared: &Prepared,
-    word: &[u8],
-) -> Option<Polynomial>
+fn hintless<K: Kind>(kind: &K, code: &Code, prepared: &Prepared, word: &[u8]) -> Option<Polynomial>
     requires { length word.now ≡ length (stops code.now.course) }
     ensures { let m = K.meaning kind.now in let c = code.now in
         (LawfulCode m c → Prepares m c prepared.now

@@ -44,7 +44,7 @@ pub fn candidate<K: Kind>(kind: &K, code: &Code, hints: &Hints, word: &[u8]) -> 
     left_quotient(kind, &dividend, &divisor, code.dimension)
 }
 
-// The word less the codeword, as far as both reach.
+// The word less the codeword, as far as both reach. `less` of hints does so with rows of eight, place by place; here it is in order.
 fn difference<K: Kind>(kind: &K, word: &[u8], codeword: &Symbols) -> Symbols
     requires { length (held codeword.now) ≡ length word.now }
     ensures { let m = K.meaning kind.now in
@@ -59,7 +59,8 @@ fn difference<K: Kind>(kind: &K, word: &[u8], codeword: &Symbols) -> Symbols
     out
 }
 
-// That a word is as long as the code is asked of the private functions, since `recover` tests it once; a type for such words would borrow both.
+// That a word is as long as the code is asked of what `recover` and `recover_by` call, which test it; a type for such words would borrow both.
+
 // The recovery that a candidate and its codeword lead to: the difference of the word from that, split with least full errors. Nothing
 // where that costs more than the budget.
 pub fn weighed<K: Kind>(

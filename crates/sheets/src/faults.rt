@@ -48,7 +48,7 @@ impl Layer {
 }
 
 impl Fault {
-    // The number of the reason.
+    // The number of the reason. A method with a name, and no From: a refusal has two numbers.
     pub fn number(&self) -> u8
         ensures { result ≡ number_of self.now.reason }
     {

@@ -22,6 +22,7 @@ pub fn damaged<K: Kind>(kind: &K, word: &Symbols, damage: &[u8]) -> Symbols
     ensures { length (held result) ≡ min 24 (length damage.now) }
 {
     let mut out = Symbols::empty();
+    // by number, since past the end of the word 0 is read
     for (i, d) in damage.iter().enumerate() {
         out.push(kind.sum(word.get(i), *d));
     }

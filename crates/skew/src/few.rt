@@ -8,7 +8,9 @@ mod changing;
 mod methods;
 mod numbers;
 
-// Clone and Copy are written by hand, since a derive is refused over ghost fields of a generic struct.
+// Clone and Copy are written by hand, since a derive is refused over ghost fields of a generic struct; so is one of a comparison, which would
+// look at the cells behind the end too. A list is made by `empty` and `push` in a loop, whose invariant says plainly what stands in it; a list
+// made of an iterator would promise what closures yield.
 pub struct Few<T, const N: usize> {
     cells: [T; N],
     len: usize,

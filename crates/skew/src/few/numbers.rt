@@ -6,7 +6,7 @@ ghost use Rattle.skew.specs.Few.{Resized};
 use super::Few;
 
 impl<const N: usize> Few<u8, N> {
-    // The list of these numbers; nothing for more than fit.
+    // The list of these numbers; nothing for more than fit. No TryFrom: there is one way to fail, and an Option says it.
     pub fn from_slice(source: &[u8]) -> Option<Self>
         ensures { let s = source.now in MatchOption result (N < length s) (λ t. held t ≡ s) }
     {

@@ -22,8 +22,7 @@ loop-powers-preserved g c =
     let i = c.loop-powers.powers-index in
     let all_of : c.len-n.result ≡ length course = c.len-n.ensures in
     let here : i < length course = search rules in
-    let room : length (held c.loop-powers.out ++ c.product_sum-symbol.result ∷ []) ≤ 24 = omega (arith, length_push (held c.loop-powers.out) c.product_sum-symbol.result, c.loop-powers.invariant.0, here, short c.args.code.now.course) in
-    (
+    let room : length (held c.loop-powers.out ++ c.product_sum-symbol.result ∷ []) ≤ 24 = omega (arith, length_push (held c.loop-powers.out) c.product_sum-symbol.result, c.loop-powers.invariant.0, here, short c.args.code.now.course) in (
       ap length (c.push.ensures ∙ take_all 24 _ room) ∙ length_push (held c.loop-powers.out) c.product_sum-symbol.result ∙ ap (λ n. n + 1) c.loop-powers.invariant.0,
       λ prep few.
           goes_on m (coefficients c.args.message.now) course no_point (short c.args.code.now.course) here (c.loop-powers.invariant.1 prep few)
