@@ -23,8 +23,7 @@ impl<const N: usize> Few<u8, N> {
         self.len = n;
     }
 
-    // Gets d times g added. It is `cross` with c = 1, which a word recovered without errors would notice: tried, and twice as many products took
-    // a twelfth of its time.
+    // Gets d times g added. It is `cross` with c = 1; tried by that, and recovery of a word of the largest code took a twentieth more time.
     pub fn gain<K: Kind>(&mut self, kind: &K, d: u8, g: &Self)
         ensures { let m = K.meaning kind.now in held self.new ≡ codes (combined m 1 (held self.old) d (held g.now)) }
     {
