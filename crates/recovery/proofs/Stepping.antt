@@ -1,7 +1,6 @@
 -- What the coefficients of a polynomial meet at a point, made once for each point of a code.
 --
 --   Stepping m a b i x out    out holds the first i of them, and x comes next
---   powers_there m ps i s     s holds those of point i
 use Rattle.std.proofs.Common.{◌≡◌, ℕ, suc, ◌+◌, ◌-◌, ◌<◌, ◌≤◌, List, [], ◌∷◌, ◌++◌, length, take, sym, refl, ap, ◌∙◌, subst, append_assoc, append-nil, arith}
 use Rattle.std.proofs.lemmas.List.{length-map, take_all, length_push, map_push}
 use Rattle.fields.specs.Field.{Ops, comb}

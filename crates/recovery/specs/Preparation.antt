@@ -1,4 +1,4 @@
--- What is prepared once for a code, so that words without hints are recovered with less work.
+-- What is prepared once for a code, so that its words are recovered with less work.
 --
 --   word_spots pts w        each point with its symbol
 --   turned o M f p          the spot p with M at its locator, and with its second value less f at its locator

@@ -1,4 +1,4 @@
-// What recovery without hints can prepare once for a code.
+// What recovery can prepare once for a code.
 ghost use Rattle.std.specs.Prelude.{MatchOption};
 ghost use Rattle.codes.specs.Codes.{LawfulCode};
 ghost use Rattle.recovery.specs.Preparation.{Prepares};
