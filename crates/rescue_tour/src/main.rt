@@ -1,16 +1,11 @@
-// Where the tour ends, this program goes on: words of the same code are damaged, and recovered without hints and with them.
+// Words of the tour's code are damaged, and recovered without hints and with them.
 #![tactic(auto)]
 
 use codes::{Code, encode, set_up};
 use fields::{Kind, Mod13};
-use rescue::rescue;
+use rescues::{MORE, rescue};
 use shown::{DAMAGE, MESSAGE, SHEET, damaged, line, refused};
 use std::io;
-
-mod rescue;
-
-// What is added to two symbols of the word.
-const MORE: [u8; 4] = [0, 1, 1, 0];
 
 fn travel<K: Kind>(rt: &impl Print, kind: &K, code: &Code) -> io::Result<()> {
     let word = encode(kind, code, &MESSAGE);

@@ -1,10 +1,11 @@
 // A journey through the codec, one step after the other, each printed. Today: the sheet of a code over the integers modulo 13 is
-// read, one message is encoded in the code, and the word and a damaged one are weighed and checked.
+// read, one message is encoded in the code, the word and a damaged one are weighed and checked, and one with more damage is recovered by hints.
 #![tactic(auto)]
 
 use codes::{Code, Symbols, dual_locators, dual_sheet, encode, message, set_up, syndromes};
 use fields::{Kind, Mod13};
 use ranks::weight;
+use rescues::{MORE, rescue};
 use shown::{DAMAGE, MESSAGE, Places, SHEET, damaged, line, refused};
 use std::io;
 
@@ -59,6 +60,13 @@ fn travel<K: Kind>(rt: &impl Print, kind: &K, code: &Code) -> io::Result<()> {
         code,
         &duals,
         damaged(kind, &word, &DAMAGE).as_slice(),
+    )?;
+    rescue(
+        rt,
+        kind,
+        code,
+        damaged(kind, &word, &MORE).as_slice(),
+        &[2, 3],
     )
 }
 

@@ -1,10 +1,15 @@
-// A damaged word, the hints on it, and what is recovered.
+// A damaged word, the hints on it, and what is recovered, as both tours show it.
+#![tactic(auto)]
+
 use codes::Code;
 use fields::Kind;
 use hints::Hints;
 use recovery::recover;
 use shown::line;
 use std::io;
+
+// What is added to two symbols of the word.
+pub const MORE: [u8; 4] = [0, 1, 1, 0];
 
 // The symbols of these blocks, of one symbol each, are given up: a column hint for each.
 pub fn rescue<K: Kind>(
