@@ -28,6 +28,7 @@ struct Case<'a> {
     bytes: &'a [u8],
 }
 
+// `timing` takes sheet and hints alike, but prints no verdict, and goes on to many words.
 impl Work for Case<'_> {
     type Out = io::Result<()>;
 

@@ -18,7 +18,7 @@ use std::io;
 mod tests;
 
 // As many blocks, each with the basis for its locators and the next power of the generator for its parameter; no more points than
-// a code can have.
+// a code can have. The plain draft of code_checks counts powers alike, but keeps lengths, parameters and locators in lists of their own.
 fn course<K: Kind>(heap: Global, kind: &K, plan: Plan) -> Result<Vec<Point>, AllocError>
     ensures { IfOk result (λ v. vec_len v ≤ 24) }
 {
