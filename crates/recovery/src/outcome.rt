@@ -1,4 +1,6 @@
 // What is recovered. The struct stands alone in its file, since specs name it.
+ghost use Rattle.std.specs.Prelude.{◌≤◌};
+
 use codes::Symbols;
 use hints::Parts;
 use skew::Polynomial;
@@ -10,4 +12,5 @@ pub struct Recovery {
     pub parts: Parts,
     // the weight of the full part
     pub errors: usize,
+    ghost few: { errors ≤ 12 },
 }

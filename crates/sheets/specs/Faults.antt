@@ -9,7 +9,25 @@ use Rattle.sheets.specs.declared.faults.Fault.{Fault}
 use Rattle.sheets.specs.declared.faults.Layer.{Layer}
 use Rattle.sheets.specs.declared.faults.Layer.TheVariants.{Sheet, Code, Station, Job}
 use Rattle.sheets.specs.declared.faults.Reason.{Reason}
-use Rattle.sheets.specs.declared.faults.Reason.TheVariants.{MissingByte, ExtraBytes, OtherKind, Limit, NoCode, Conjugate, Dependent}
+use Rattle.sheets.specs.declared.faults.Reason.TheVariants.{
+  MissingByte,
+  ExtraBytes,
+  OtherKind,
+  Limit,
+  NoCode,
+  Conjugate,
+  Dependent,
+  NotOpen,
+  WrongLength,
+  NoSymbol,
+  OutOfRange,
+  DependentHint,
+  Spent,
+  OutOfReach,
+  FullTally,
+  NoCodeword,
+  NoDual,
+}
 
 abbrev pub number_of : Reason → ℕ
 -- the next byte is missing
@@ -26,6 +44,26 @@ number_of NoCode = 5
 number_of Conjugate = 6
 -- the locators of a block are dependent
 number_of Dependent = 7
+-- the call is not open in the state of the station
+number_of NotOpen = 8
+-- an input, a row or a buffer has not its exact length
+number_of WrongLength = 9
+-- a symbol is no code, or a coefficient of a column hint is not fixed
+number_of NoSymbol = 10
+-- a block is not one of the code, or an item is none
+number_of OutOfRange = 11
+-- a hint is a sum of hints of its sort in its block
+number_of DependentHint = 12
+-- there are n - k hints already
+number_of Spent = 13
+-- no codeword is in reach of the word
+number_of OutOfReach = 14
+-- the tally is full
+number_of FullTally = 15
+-- the word is no codeword
+number_of NoCodeword = 16
+-- the code has no dual, since k is n
+number_of NoDual = 17
 
 abbrev pub layer_number_of : Layer → ℕ
 -- the bytes of a sheet

@@ -16,6 +16,16 @@ pub enum Reason {
     NoCode = 5,
     Conjugate = 6,
     Dependent = 7,
+    NotOpen = 8,
+    WrongLength = 9,
+    NoSymbol = 10,
+    OutOfRange = 11,
+    DependentHint = 12,
+    Spent = 13,
+    OutOfReach = 14,
+    FullTally = 15,
+    NoCodeword = 16,
+    NoDual = 17,
 }
 
 // Which layer refuses.
