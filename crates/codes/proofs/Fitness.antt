@@ -24,6 +24,7 @@ use Rattle.sheets.specs.Sheets.{Length, Whole}
 use Rattle.sheets.specs.Readings.{text_of, Laid}
 use Rattle.ranks.specs.Ranks.{total, cut}
 use Rattle.codes.specs.Codes.{block_size}
+use Rattle.codes.proofs.Rightness.{not_unfit}
 use Rattle.codes.specs.Fitness.{at_code, Outside, First, AllNot, Related, ApartUntil, grouped, pointed, route, Gathered, Breaks, Unfit, no_parameter, no_locator, related, dependent, Made}
 
 -- The sum of lengths, from either end.
@@ -141,8 +142,9 @@ route_size (n ∷ ls) (a ∷ ps) xs e h =
 -- A judged sheet makes a lawful code.
 pub made : {m : Meaning} (l : Laws m) (s : Sheet) (c : Code) → Whole (text_of s).dimension (text_of s).blocks (text_of s).parameters (text_of s).locators
     → {ls ps xs : List ℕ} → ls ≡ part_of s.lengths → ps ≡ part_of s.parameters → xs ≡ part_of s.locators
-    → AllNot (Outside m 1) ps → ApartUntil m ps (length ps) → Gathered m ls ps xs (stops c.course) → held c.lengths ≡ ls → c.dimension ≡ s.dimension → Made m (text_of s) c
-made {m} l s c w {ls} {ps} {xs} el ep ex a apart g ei ed =
+    → AllNot (Outside m 1) ps → AllNot (Outside m 0) xs → ApartUntil m ps (length ps) → Gathered m ls ps xs (stops c.course) → held c.lengths ≡ ls → c.dimension ≡ s.dimension
+    → Made m (text_of s) c
+made {m} l s c w {ls} {ps} {xs} el ep ex a b apart g ei ed =
     let many : length ps ≡ length ls = ap length ep ∙ w.as_many_parameters ∙ sym (ap length el) in
     let size : length xs ≡ total ls = ap length ex ∙ w.as_many_locators ∙ sum_total (part_of s.lengths) ∙ sym (ap total el) in
     let most : s.dimension ≤ total ls = omega (arith, w.opens.most, sum_total (part_of s.lengths), ap total el) in
@@ -158,6 +160,10 @@ made {m} l s c w {ls} {ps} {xs} el ep ex a apart g ei ed =
         some = omega (arith, ed, w.opens.least);
         most = omega (arith, ed, ap length g.all, route_size ls ps xs many (omega arith));
       };
+      fit =
+          not_unfit (text_of s) (subst (AllNot (Outside m 1)) ep a) (subst (AllNot (Outside m 0)) ex b) (subst (λ qs. ApartUntil m qs (length qs)) ep apart)
+          (subst (λ ys. Gathered m (part_of s.lengths) (part_of s.parameters) ys (stops c.course)) ex
+          (subst (λ qs. Gathered m (part_of s.lengths) qs xs (stops c.course)) ep (subst (λ ns. Gathered m ns ps xs (stops c.course)) el g)));
     }
 
 -- Each length keeps its limits.

@@ -3,6 +3,7 @@ pub mod EncodingLoop
 pub mod Reading
 pub mod Fitting
 pub mod Gathering
+pub mod Rightness
 pub mod Fitness
 pub mod Combs
 pub mod Interpolants

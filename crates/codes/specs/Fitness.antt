@@ -12,7 +12,7 @@
 --   Judged m t              the numbers are codes, parameters are not 0, and no two are conjugate
 --   Breaks m ls xs base e   the first block with dependent locators, and in it the first locator that depends on earlier ones
 --   Unfit m t e             the code of the sheet is refused
---   Made m t c              c is the code of the sheet, and lawful
+--   Made m t c              c is the code of the sheet, and lawful; and the sheet has none of the faults
 use Rattle.std.specs.Prelude.{◌≡◌, ℕ, ◌+◌, ◌<◌, ◌≤◌, ◌⊎◌, List, [], ◌∷◌, ◌++◌, map, length, take, drop, slice_index, slice_index_or}
 use Rattle.fields.specs.Meaning.{Meaning}
 use Rattle.fields.specs.Elements.{Elem, elem, elems, ops}
@@ -95,3 +95,4 @@ pub record Made (m : Meaning) (t : Text) (c : Code) : Type 0 where
   pub lengths : held c.lengths ≡ t.blocks
   pub points : stops c.course ≡ route t.blocks t.parameters t.locators
   pub lawful : LawfulCode m c
+  pub fit : (e : Fault) → ¬ Unfit m t e

@@ -111,6 +111,17 @@ module _ {m : Meaning} (l : Laws m) where
     pub column_more : {g : Form} → Extended m f (padded m h) g → FormHolds m g (map (padded m) (h ∷ hs))
     column_more more = form_more (map (padded m) hs) column_row column_rows held more
 
+  -- Coefficients that are fixed codes are fixed elements.
+  pub all_fixed : (d : List ℕ) → AllNot (Unfixed m) d → AllByRecursion (field.Fixed (ops m)) (elems m d)
+  all_fixed [] u = tt
+  all_fixed (x ∷ d) u = (stays x (u 0 (omega arith)), all_fixed d (λ j k. u (suc j) (omega arith)))
+    where
+      stays : (y : ℕ) → ¬ Unfixed m y → field.Fixed (ops m) (elem m y)
+      stays y n =
+          let code : y < m.size = elim (cases_lt y m.size) [ inl p ↦ p | inr p ↦ absurd (n (inl p)) ] in
+          let same : m.twist y ≡ y = elim (ℕ_discrete (m.twist y) y) [ yes p ↦ p | no p ↦ absurd (n (inr p)) ] in
+          sym (Carrier.twists m y (sym same ∙ ap m.twist (sym (Carrier.counts l y code))))
+
   -- One block changed, and the counts with it.
   changed : {ns : List ℕ} {k : ℕ} {h : Hints} {gs : List (Given (Elem m))} (i : ℕ) (b : BlockHints) (g : Given (Elem m)) → i < length ns → length h.blocks ≡ 12 → length ns ≤ 12
       → Holds m ns k h gs → BlockHolds m (get_or ns i 0) b g
@@ -187,17 +198,6 @@ module _ {m : Meaning} (l : Laws m) where
 
       padding : elems m r ≡ padded m (elems m c)
       padding = ap (elems m) (behind (omega (arith, column_size, few))) ∙ padded_numbers m c
-
-      -- Coefficients that are fixed codes are fixed elements.
-      all_fixed : (d : List ℕ) → AllNot (Unfixed m) d → AllByRecursion (field.Fixed (ops m)) (elems m d)
-      all_fixed [] u = tt
-      all_fixed (x ∷ d) u = (stays x (u 0 (omega arith)), all_fixed d (λ j k. u (suc j) (omega arith)))
-        where
-          stays : (y : ℕ) → ¬ Unfixed m y → field.Fixed (ops m) (elem m y)
-          stays y n =
-              let code : y < m.size = elim (cases_lt y m.size) [ inl p ↦ p | inr p ↦ absurd (n (inl p)) ] in
-              let same : m.twist y ≡ y = elim (ℕ_discrete (m.twist y) y) [ yes p ↦ p | no p ↦ absurd (n (inr p)) ] in
-              sym (Carrier.twists m y (sym same ∙ ap m.twist (sym (Carrier.counts l y code))))
 
       row : Row (ops m) (get_or ns (b - 1) 0) (elems m c)
       row = (length-map c (elem m) ∙ column_size, all_fixed c fixed)

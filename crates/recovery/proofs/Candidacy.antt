@@ -63,7 +63,7 @@ module _ {m : Meaning} (l : Laws m) where
   laws = Carrier.ops_laws l
 
   -- The word of a message by the recursion.
-  word_eval : (c : Code) (f : List (Elem m)) → word_of m c f ≡ map (λ t. eval (ops m) t.0 f t.1) (pts m c)
+  pub word_eval : (c : Code) (f : List (Elem m)) → word_of m c f ≡ map (λ t. eval (ops m) t.0 f t.1) (pts m c)
   word_eval c f = ap (λ v. map (λ (t : Elem m × Elem m). v t.0 f t.1) (pts m c)) (sym (Evaluation.both_values laws))
 
   module _ (c : Code) (h : Hints) (gs : List (Given (Elem m))) (w : List ℕ) (law : LawfulCode m c) (holds : Holds m (held c.lengths) c.dimension h gs) (size : length w ≡ length (stops c.course)) where

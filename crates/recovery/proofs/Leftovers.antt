@@ -103,7 +103,7 @@ module _ {F : Type 0} {o : Ops F} (l : Laws o) where
           ∙ ap (plus o (image p.full)) (Placewise.map_plus l T L (cleared p.row) (cleared p.column))
 
   -- There are as many symbols as locators in what the word has beyond a codeword.
-  length_difference : (f : List F) (s : Site F) → length s.symbols ≡ length s.locators → length (difference o f s) ≡ length s.locators
+  pub length_difference : (f : List F) (s : Site F) → length s.symbols ≡ length s.locators → length (difference o f s) ≡ length s.locators
   length_difference f s e =
       Rows.length_plus l s.symbols (map neg (map (eval o s.parameter f) s.locators))
       ∙ omega (arith, e, length-map (map (eval o s.parameter f) s.locators) neg, length-map s.locators (eval o s.parameter f))

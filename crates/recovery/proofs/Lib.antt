@@ -20,3 +20,4 @@ pub mod Leaving
 pub mod Candidacy
 pub mod Sameness
 pub mod Assembly
+pub mod Uniqueness

@@ -1,3 +1,4 @@
 mod Steps
 mod Fronts
 mod Verdicts
+pub mod Certainty

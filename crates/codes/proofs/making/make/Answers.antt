@@ -40,7 +40,7 @@ returns-in_err-course g c =
 pub returns : goal.returns
 returns g c =
     made (g.met.K.Kind.lawful c.args.kind.now) c.args.sheet _ c.requires.whole c.bytes-lengths.ensures c.bytes-parameters.ensures c.bytes-locators.ensures
-    c.in_default.ensures c.in_default-first_related.ensures c.in_ok-course.ensures c.copied.ensures refl
+    c.in_default.ensures c.in_default-first_outside.ensures c.in_default-first_related.ensures c.in_ok-course.ensures c.copied.ensures refl
 
 pub invariant_of-result : goal.invariant_of-result
 invariant_of-result g c =
