@@ -5,13 +5,13 @@ ghost use Rattle.fields.specs.Meaning.{Meaning};
 use brought::Gf256Over16;
 use fields::{Gf16, Gf81, Gf256, Kind, Mirror, Mod13};
 
-// What is done with a kind, whichever it is.
+// What is done with a kind, whichever it is; a kind is copied where something holds one.
 pub trait Work: Drop {
     type Out;
 
     ghost gives: { Self → Meaning → Self.Out → Type 0 };
 
-    fn run<K: Kind>(self, kind: &K) -> Self::Out
+    fn run<K: Kind + Copy>(self, kind: &K) -> Self::Out
         ensures { gives self (K.meaning kind.now) result };
 }
 

@@ -1,11 +1,12 @@
 -- Ranks of small blocks, splittings without hints, and what is in reach of a word, told of the sheet in place of the code.
 --
 --   full_only o e      the parts of a block whose difference e is full part
-use Rattle.std.proofs.Common.{◌≡◌, ℕ, suc, ◌+◌, ◌*◌, ◌≤◌, ◌≢◌, List, [], ◌∷◌, map, length, sym, refl, ap, ◌∙◌, subst, ap₂, arith}
+use Rattle.std.proofs.Common.{◌≡◌, ℕ, suc, ◌+◌, ◌*◌, ◌≤◌, ◌≢◌, List, [], ◌∷◌, map, length, replicate, sym, refl, ap, ◌∙◌, subst, ap₂, arith}
 use Rattle.std.specs.List.{AllByRecursion}
 use Rattle.fields.specs.Field.{Ops, Laws, Zero, plus}
 use Rattle.fields.specs.Meaning.{Meaning}
 use Rattle.fields.specs.Elements.{Elem, ops}
+use Rattle.fields.specs.Lists.{all_follow}
 use Rattle.skew.specs.Annihilators.{places}
 use Rattle.skew.specs.Interpolation.{values}
 use Rattle.skew.specs.Roots.{Independent}
@@ -13,11 +14,14 @@ use Rattle.sheets.specs.Sheets.{Text}
 use Rattle.ranks.specs.Ranks.{Spanned, IsRank, Weighs, cut}
 use Rattle.ranks.specs.Reduction.{zeros, mix}
 use Rattle.ranks.proofs.Spans
+use Rattle.ranks.proofs.Mixing
+use Rattle.ranks.proofs.Weighing
 use Rattle.codes.specs.declared.shape.Code.{Code}
 use Rattle.codes.specs.Codes.{word_of}
 use Rattle.codes.specs.Fitness.{route, Made}
 use Rattle.hints.specs.Splittings.{Given, Parts, Splits, Splitting, full_part, row_count, column_count}
 use Rattle.recovery.specs.Reach.{InReach}
+use Rattle.recovery.proofs.Hintless.{none}
 
 module _ {F : Type 0} {o : Ops F} (l : Laws o) where
   -- No elements span zero alone.
@@ -70,7 +74,7 @@ module _ {F : Type 0} {o : Ops F} (l : Laws o) where
   zeros_from_none (suc n) = (([], refl, tt, refl), zeros_from_none n)
 
   -- Without hints a block's difference is full part.
-  pub full_splits : (e : List F) → Splits o (record { rows = []; columns = [] }) e (full_only o e)
+  pub full_splits : (e : List F) → Splits o none e (full_only o e)
   full_splits e = record {
     sum = sym (ap (plus o e) (ap (plus o (zeros o (length e))) (ap (zeros o) (sym (length_zeros (length e)))) ∙ plus_zeros (zeros o (length e))) ∙ plus_zeros e);
     full_size = refl;
@@ -78,6 +82,41 @@ module _ {F : Type 0} {o : Ops F} (l : Laws o) where
     rows = zeros_from_none (length e);
     columns = ([], refl, mix_none (length e));
   }
+
+  -- A row of zeros adds nothing.
+  plus_none : (u v : List F) → length v ≡ length u → AllByRecursion (Zero o) v → plus o u v ≡ u
+  plus_none [] [] e z = refl
+  plus_none [] (y ∷ v) e z = absurd (omega arith)
+  plus_none (x ∷ u) [] e z = refl
+  plus_none (x ∷ u) (y ∷ v) e z = ap₂ (λ y f. y ∷ f) (ap (o.add x) z.0 ∙ l.add_zero x) (plus_none u v (omega arith) z.1)
+
+  -- So nothing else than the difference is the full part.
+  pub full_is : (e : List F) (p : Parts F) → Splits o none e p → p.full ≡ e
+  full_is e p s = sym (s.sum ∙ ap (plus o p.full) (plus_none p.row p.column (column_size ∙ sym s.row_size) column) ∙ plus_none p.full p.row (s.row_size ∙ sym s.full_size) row)
+    where
+      column_size : length p.column ≡ length e
+      column_size = ap length s.columns.2 ∙ Mixing.length_mix l (length e) [] s.columns.0
+
+      column : AllByRecursion (Zero o) p.column
+      column = subst (AllByRecursion (Zero o)) (sym s.columns.2) (Mixing.mix_none l (length e) s.columns.0)
+
+      row : AllByRecursion (Zero o) p.row
+      row = all_follow (Spanned o []) (Zero o) (spanned_by_none l) p.row s.rows
+
+  -- So it is in every block.
+  all_full : (n : ℕ) (es : List (List F)) (ps : List (Parts F)) → Splitting o (replicate n none) es ps → full_part ps ≡ es
+  all_full ℕ.zero [] [] s = refl
+  all_full ℕ.zero [] (p ∷ ps) s = absurd s
+  all_full ℕ.zero (e ∷ es) ps s = absurd s
+  all_full (suc n) [] ps s = absurd s
+  all_full (suc n) (e ∷ es) [] s = absurd s
+  all_full (suc n) (e ∷ es) (p ∷ ps) s = ap₂ (λ f fs. f ∷ fs) (full_is e p s.0) (all_full n es ps s.1)
+
+  -- So all splittings without hints weigh the same.
+  pub weigh_the_same : (n : ℕ) (es : List (List F)) (ps qs : List (Parts F)) (t u : ℕ) → Splitting o (replicate n none) es ps → Splitting o (replicate n none) es qs
+      → Weighs o (full_part ps) t → Weighs o (full_part qs) u → t ≡ u
+  weigh_the_same n es ps qs t u s r v w =
+      (Weighing.ranked l).one_weight es t u (subst (λ word. Weighs o word t) (all_full n es ps s) v) (subst (λ word. Weighs o word u) (all_full n es qs r) w)
 
 module _ {m : Meaning} {t : Text} {c : Code} (made : Made m t c) where
   -- The word of a message, by the points of the sheet.

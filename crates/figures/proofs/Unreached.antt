@@ -8,9 +8,9 @@
 --   word_a f               the codeword of the message f
 --   wrong_at k marks x y   for the message x y at least k symbols without mark of the difference are not zero
 --   far k marks            so it is for each message, by test
-use Rattle.std.proofs.Common.{◌≡◌, ℕ, ◌+◌, ◌*◌, ◌<◌, ◌≤◌, Bool, true, false, cond, T, eqb, leb, List, [], ◌∷◌, map, length, sym, ap, ◌∙◌, subst, subst₂, arith, leb→le}
-use Rattle.std.specs.List.{AllByRecursion}
-use Rattle.fields.specs.Field.{Ops, Laws, plus}
+use Rattle.std.proofs.Common.{◌≡◌, ℕ, ◌+◌, ◌*◌, ◌<◌, ◌≤◌, Bool, true, false, cond, T, eqb, leb, List, [], ◌∷◌, map, length, sym, ap, ◌∙◌, subst, subst₂, arith, lit<, leb→le}
+use Rattle.fields.specs.Field.{Laws, plus}
+use Rattle.fields.specs.Residues.{sum, opposite, product, power}
 use Rattle.fields.specs.Elements.{Elem, element, elem, elems, ops}
 use Rattle.fields.specs.Shipped.{mod13}
 use Rattle.fields.proofs.Carrier
@@ -18,13 +18,13 @@ use Rattle.fields.specs.Mod13Laws.{mod13_laws}
 use Rattle.fields.specs.Range.{below2, at2}
 use Rattle.skew.specs.Annihilators.{places}
 use Rattle.skew.specs.Interpolation.{values}
-use Rattle.ranks.specs.Ranks.{Spanned, IsRank, Weighs, cut}
+use Rattle.ranks.specs.Ranks.{IsRank, Weighs, cut}
 use Rattle.codes.specs.declared.shape.Code.{Code}
 use Rattle.codes.specs.Fitness.{route, Made}
 use Rattle.hints.specs.Splittings.{Given, Parts, Splitting, full_part, row_count, column_count}
 use Rattle.recovery.specs.Reach.{InReach}
 use Rattle.figures.specs.Figures.{text_a, told}
-use Rattle.figures.proofs.Reaching.{spanned_by_none, independent_one}
+use Rattle.figures.proofs.Reaching.{independent_one, full_is}
 
 abbrev pub hinted : List Bool → List (Given (Elem mod13))
 hinted marks = map (λ marked. told mod13 [] (cond marked ((1 ∷ []) ∷ []) [])) marks
@@ -47,18 +47,8 @@ word_a f = values (ops mod13) f (places mod13 (route text_a.blocks text_a.parame
 abbrev wrong_at : ℕ → List Bool → Elem mod13 → Elem mod13 → Bool
 wrong_at k marks x y = leb k (missed marks (less (word_a (x ∷ y ∷ []))))
 
-abbrev pub far : ℕ → List Bool → Bool
+abbrev far : ℕ → List Bool → Bool
 far k marks = below2 (λ a b. wrong_at k marks (elem mod13 a) (elem mod13 b)) 13
-
--- In a block of one symbol without hints row and column part are zero.
-full_alone : {F : Type 0} {o : Ops F} (l : Laws o) (d : F) (full row column : List F) → length full ≡ 1 → length row ≡ 1 → AllByRecursion (Spanned o []) row → column ≡ o.zero ∷ []
-    → d ∷ [] ≡ plus o full (plus o row column) → full ≡ d ∷ []
-full_alone l d [] row column n k h z e = absurd (omega arith)
-full_alone l d (f ∷ g ∷ fs) row column n k h z e = absurd (omega arith)
-full_alone l d (f ∷ []) [] column n k h z e = absurd (omega arith)
-full_alone l d (f ∷ []) (r ∷ s ∷ rs) column n k h z e = absurd (omega arith)
-full_alone {o = o} l d (f ∷ []) (r ∷ []) column n k h z e =
-    sym (e ∙ ap (λ xs. plus o (f ∷ []) (plus o (r ∷ []) xs)) z ∙ ap (λ x. x ∷ []) (ap (o.add f) (l.add_zero r ∙ spanned_by_none l r h.0) ∙ l.add_zero f))
 
 -- The laws of the integers modulo 13, on elements.
 pub laws_13 : Laws (ops mod13)
@@ -85,7 +75,7 @@ missed_weighed (true ∷ marks) (d ∷ ds) [] t s w = absurd s
 missed_weighed (true ∷ marks) (d ∷ ds) (p ∷ ps) t s w = omega (arith, missed_weighed marks ds ps w.2 s.1 w.3, w.4)
 missed_weighed (false ∷ marks) (d ∷ ds) [] t s w = absurd s
 missed_weighed (false ∷ marks) (d ∷ ds) (p ∷ ps) t s w =
-    let q : p.full ≡ d ∷ [] = full_alone laws_13 d p.full p.row p.column s.0.full_size s.0.row_size s.0.rows s.0.columns.2 s.0.sum in
+    let q : p.full ≡ d ∷ [] = full_is laws_13 (d ∷ []) p s.0 in
     let k = cost_ranked d w.0 (subst (λ xs. IsRank (ops mod13) xs w.0) q w.1) in
     omega (arith, k, missed_weighed marks ds ps w.2 s.1 w.3, w.4)
 
@@ -99,7 +89,7 @@ at_message k marks test (x ∷ y ∷ []) n =
     leb→le k _ (subst₂ (λ u v. T (wrong_at k marks u v)) (Carrier.elem_code x) (Carrier.elem_code y) tested)
 
 -- Where k errors are too many for the budget, no codeword is in reach.
-pub unreached : (k : ℕ) (marks : List Bool) → T (far k marks) → 4 < 2 * k + (row_count (hinted marks) + column_count (hinted marks)) + 2
+unreached : (k : ℕ) (marks : List Bool) → T (far k marks) → 4 < 2 * k + (row_count (hinted marks) + column_count (hinted marks)) + 2
     → (c : Code) → Made mod13 text_a c → (v : List (Elem mod13)) → ¬ InReach mod13 c (hinted marks) (elems mod13 (8 ∷ 12 ∷ 2 ∷ 4 ∷ [])) v
 unreached k marks test much c made v r =
     let f = r.codeword.0 in
@@ -109,3 +99,14 @@ unreached k marks test much c made v r =
     let most = missed_weighed marks (less (word_a f)) r.parts r.errors splitting r.weight in
     let least = at_message k marks test f (r.codeword.1 ∙ made.dimension) in
     omega (arith, most, least, much, r.budget, made.dimension, ap length made.points)
+
+module _ {c : Code} (made : Made mod13 text_a c) where
+  -- So none is without hints.
+  pub nothing_without_hints : (v : List (Elem mod13)) → ¬ InReach mod13 c (hinted (false ∷ false ∷ false ∷ false ∷ [])) (elems mod13 (8 ∷ 12 ∷ 2 ∷ 4 ∷ [])) v
+  unfolding sum opposite product power element ops
+  nothing_without_hints = unreached 2 (false ∷ false ∷ false ∷ false ∷ []) tt (lit< tt) c made
+
+  -- Nor is any with the column hint in block 2.
+  pub nothing_with_one_hint : (v : List (Elem mod13)) → ¬ InReach mod13 c (hinted (false ∷ true ∷ false ∷ false ∷ [])) (elems mod13 (8 ∷ 12 ∷ 2 ∷ 4 ∷ [])) v
+  unfolding sum opposite product power element ops
+  nothing_with_one_hint = unreached 1 (false ∷ true ∷ false ∷ false ∷ []) tt (lit< tt) c made

@@ -1,19 +1,26 @@
 -- Worked figures about the definitions: one table. Each row is computed from the definitions alone.
-use Rattle.std.specs.Prelude.{◌≡◌, ℕ, List, [], ◌∷◌, map, Err}
+use Rattle.std.specs.Prelude.{◌≡◌, ℕ, ◌<◌, List, [], ◌∷◌, map, Result, Ok, Err}
 use Rattle.fields.specs.Meaning.{Meaning}
 use Rattle.fields.specs.Shipped.{gf256, gf16, gf81, mod13}
 use Rattle.fields.specs.Elements.{Elem, elem, elems, ops}
 use Rattle.skew.specs.Values.{value_code}
+use Rattle.sheets.specs.declared.faults.Fault.{Fault}
 use Rattle.sheets.specs.declared.faults.Reason.TheVariants as reason
 use Rattle.sheets.specs.Sheets.{Text, Spells}
 use Rattle.codes.specs.declared.shape.Code.{Code}
+use Rattle.codes.specs.Holdings.{held as numbers}
 use Rattle.codes.specs.Codes.{word_of}
 use Rattle.codes.specs.Duals.{DualLocators, syndrome}
 use Rattle.codes.specs.Fitness.{at_code, Unfit, Made}
 use Rattle.hints.specs.declared.not_taken.NotTaken.TheVariants as not_taken
 use Rattle.hints.specs.Splittings.{Given, full_part}
 use Rattle.hints.specs.Taking.{RowJudged}
+use Rattle.recovery.specs.declared.outcome.Recovery.{Recovery}
 use Rattle.recovery.specs.Reach.{InReach}
+use Rattle.station.specs.Calls.{row, column, decode, Reply, done, at_station}
+use Rattle.station.specs.Positions.{held, solved, Tallied, Position, at, most_words}
+use Rattle.station.specs.Rules.{Answered}
+use Rattle.station.specs.Histories.{History}
 
 -- Code A: kind 4, dimension 2, four blocks of one symbol. Code B: kind 2, dimension 2, two blocks of two symbols; and B with other
 -- parameters or other locators in its first block.
@@ -46,6 +53,17 @@ row_hint_b = told gf16 (8 ∷ []) [] ∷ untold gf16 ∷ []
 
 abbrev pub both_hints_b : List (Given (Elem gf16))
 both_hints_b = told gf16 (8 ∷ []) [] ∷ told gf16 [] ((0 ∷ 1 ∷ []) ∷ []) ∷ []
+
+-- Where this word of the code is held with these hints, and the tally is not full, decode is refused 14; or it gives this codeword with tF full
+-- errors.
+abbrev pub Refused : (m : Meaning) → Code → List (Given (Elem m)) → List ℕ → Type 0
+Refused m c gs w =
+    (t : Tallied) → t.words < most_words → (a : Result Reply Fault) (q : Position m) → Answered m (at m (held c w gs) t) decode a q → a ≡ Err (at_station reason.OutOfReach 0)
+
+abbrev pub Gives : (m : Meaning) → Code → List (Given (Elem m)) → List ℕ → List ℕ → ℕ → Type 0
+Gives m c gs w v n =
+    (t : Tallied) → t.words < most_words → (a : Result Reply Fault) (q : Position m) → Answered m (at m (held c w gs) t) decode a q
+    → (a ≡ Ok done) × ((r : Recovery) × (q.standing ≡ solved c gs r) × (numbers r.codeword ≡ v) × (r.errors ≡ n))
 
 pub record Figures : Type 0 where
   -- kinds: 128 × 2 is 29 and 214 is fixed in kind 1; 8 × 6 is 5 and 2 twisted is 3 in kind 2; 27 × 3 is 7 and 3 twisted is 27
@@ -90,3 +108,22 @@ pub record Figures : Type 0 where
   -- spent budget
   pub b_dependent_hint : RowJudged gf16 (2 ∷ 2 ∷ []) 2 row_hint_b 1 5 (Err not_taken.Dependent)
   pub b_spent : RowJudged gf16 (2 ∷ 2 ∷ []) 2 both_hints_b 2 1 (Err not_taken.Spent)
+  -- a station: where the word 8 4 3 13 of B is held, the row hint 8 in block 1 is taken, then 5 there is refused 12, the column hint (0, 1)
+  -- in block 2 is taken, and the row hint 1 there is refused 13
+  pub b_hints_called : (c : Code) → Made gf16 (text_b (1 ∷ 2 ∷ []) (1 ∷ 2 ∷ 1 ∷ 2 ∷ [])) c → (t : Tallied) (rs : List (Result Reply Fault)) (q : Position gf16)
+      → History gf16 (at gf16 (held c (8 ∷ 4 ∷ 3 ∷ 13 ∷ []) (untold gf16 ∷ untold gf16 ∷ [])) t) (row 1 8 ∷ row 1 5 ∷ column 2 (0 ∷ 1 ∷ []) ∷ row 2 1 ∷ []) rs q
+      → rs ≡ Ok done ∷ Err (at_station reason.DependentHint 0) ∷ Ok done ∷ Err (at_station reason.Spent 0) ∷ []
+  -- where the word 8 12 2 4 of A is held, decode is refused 14 without hints, and with the column hint (1) in block 2
+  pub a_two_errors_called : (c : Code) → Made mod13 text_a c
+      → Refused mod13 c (untold mod13 ∷ untold mod13 ∷ untold mod13 ∷ untold mod13 ∷ []) (8 ∷ 12 ∷ 2 ∷ 4 ∷ [])
+  pub a_one_hint_called : (c : Code) → Made mod13 text_a c
+      → Refused mod13 c (untold mod13 ∷ told mod13 [] ((1 ∷ []) ∷ []) ∷ untold mod13 ∷ untold mod13 ∷ []) (8 ∷ 12 ∷ 2 ∷ 4 ∷ [])
+  -- and it recovers as above: 8 12 1 4 without hints, 8 12 2 4 with the hints in blocks 2 and 3; in B 8 4 3 4 without hints, 8 4 3 13 with both
+  -- hints and without
+  pub a_one_error_called : (c : Code) → Made mod13 text_a c
+      → Gives mod13 c (untold mod13 ∷ untold mod13 ∷ untold mod13 ∷ untold mod13 ∷ []) (8 ∷ 12 ∷ 1 ∷ 4 ∷ []) (8 ∷ 11 ∷ 1 ∷ 4 ∷ []) 1
+  pub a_two_hints_called : (c : Code) → Made mod13 text_a c
+      → Gives mod13 c (untold mod13 ∷ told mod13 [] ((1 ∷ []) ∷ []) ∷ told mod13 [] ((1 ∷ []) ∷ []) ∷ untold mod13 ∷ []) (8 ∷ 12 ∷ 2 ∷ 4 ∷ []) (8 ∷ 11 ∷ 1 ∷ 4 ∷ []) 0
+  pub b_one_error_called : (c : Code) → Made gf16 (text_b (1 ∷ 2 ∷ []) (1 ∷ 2 ∷ 1 ∷ 2 ∷ [])) c → Gives gf16 c (untold gf16 ∷ untold gf16 ∷ []) (8 ∷ 4 ∷ 3 ∷ 4 ∷ []) (0 ∷ 1 ∷ 3 ∷ 4 ∷ []) 1
+  pub b_two_hints_called : (c : Code) → Made gf16 (text_b (1 ∷ 2 ∷ []) (1 ∷ 2 ∷ 1 ∷ 2 ∷ [])) c → Gives gf16 c both_hints_b (8 ∷ 4 ∷ 3 ∷ 13 ∷ []) (0 ∷ 1 ∷ 3 ∷ 4 ∷ []) 0
+  pub b_without_hints_called : (c : Code) → Made gf16 (text_b (1 ∷ 2 ∷ []) (1 ∷ 2 ∷ 1 ∷ 2 ∷ [])) c → Gives gf16 c (untold gf16 ∷ untold gf16 ∷ []) (8 ∷ 4 ∷ 3 ∷ 13 ∷ []) (4 ∷ 4 ∷ 3 ∷ 13 ∷ []) 1

@@ -34,7 +34,7 @@ impl Work for Case<'_> {
 
     ghost gives = { λ _ _ _. ⊤ };
 
-    fn run<K: Kind>(self, kind: &K) -> io::Result<()> {
+    fn run<K: Kind + Copy>(self, kind: &K) -> io::Result<()> {
         let Ok(code) = set_up(kind, self.sheet) else {
             return println!(self.rt; "no code");
         };

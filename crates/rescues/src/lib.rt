@@ -1,39 +1,68 @@
-// A damaged word, the hints on it, and what is recovered, as both tours show it.
+// A damaged word, the hints on it, and what a station recovers, as both tours show it.
 #![tactic(auto)]
 
-use codes::Code;
 use fields::Kind;
-use hints::Hints;
-use recovery::recover;
-use shown::line;
+use shown::{MESSAGE, line};
+use station::Station;
 use std::io;
 
 // What is added to two symbols of the word.
 pub const MORE: [u8; 4] = [0, 1, 1, 0];
 
-// The symbols of these blocks, of one symbol each, are given up: a column hint for each.
+// An item of what was recovered, of so many symbols, at most 24.
+fn item<K: Kind>(
+    rt: &impl Print,
+    station: &Station<K>,
+    name: &str,
+    number: usize,
+    size: usize,
+) -> io::Result<()> {
+    let mut symbols = [0; 24];
+    let Some(out) = symbols.get_mut(..size) else {
+        return println!(rt; "{name}: no room");
+    };
+    match station.read(number, out) {
+        Ok(_) => line(rt, name, out),
+        Err(fault) => println!(rt; "{name}: {fault}"),
+    }
+}
+
+// What was recovered of a word with n symbols.
+fn recovered<K: Kind>(rt: &impl Print, station: &Station<K>, n: usize) -> io::Result<()> {
+    item(rt, station, "  recovered", 1, n)?;
+    item(rt, station, "  message", 0, MESSAGE.len())?;
+    match station.read(2, &mut [0; 4]) {
+        Ok(counts) => println!(rt; "  full errors {}", counts.full)?,
+        Err(fault) => println!(rt; "  full errors: {fault}")?,
+    }
+    item(rt, station, "  full part", 2, n)?;
+    item(rt, station, "  row part", 3, n)?;
+    item(rt, station, "  column part", 4, n)
+}
+
+// A word is loaded, the symbols of these blocks, of one symbol each, are given up, a column hint for each, and it is decoded and cleared.
 pub fn rescue<K: Kind>(
     rt: &impl Print,
-    kind: &K,
-    code: &Code,
+    station: &mut Station<K>,
     word: &[u8],
     blocks: &[u8],
 ) -> io::Result<()> {
     line(rt, "damaged", word)?;
-    let mut hints = Hints::none();
+    if let Err(fault) = station.load(word) {
+        return println!(rt; "  {fault}");
+    }
     for b in blocks {
-        match hints.add_column(kind, code, *b as usize, &[1]) {
+        match station.column(usize::from(*b), &[1]) {
             Ok(()) => println!(rt; "  block {b} is given up")?,
-            Err(_) => println!(rt; "  block {b}: the hint is not taken")?,
+            Err(fault) => println!(rt; "  block {b}: {fault}")?,
         }
     }
-    let Some(r) = recover(kind, code, &hints, word) else {
-        return println!(rt; "  no codeword is in reach");
-    };
-    line(rt, "  recovered", r.codeword.as_slice())?;
-    line(rt, "  message", r.message.as_slice())?;
-    println!(rt; "  full errors {}", r.errors)?;
-    line(rt, "  full part", r.parts.full.as_slice())?;
-    line(rt, "  row part", r.parts.row.as_slice())?;
-    line(rt, "  column part", r.parts.column.as_slice())
+    match station.decode() {
+        Ok(()) => recovered(rt, station, word.len())?,
+        Err(_) => println!(rt; "  no codeword is in reach")?,
+    }
+    if let Err(fault) = station.clear() {
+        return println!(rt; "  {fault}");
+    }
+    Ok(())
 }

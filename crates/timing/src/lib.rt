@@ -53,7 +53,7 @@ impl Work for Run<'_, '_> {
 
     ghost gives = { λ _ _ _. ⊤ };
 
-    fn run<K: Kind>(self, kind: &K) -> usize {
+    fn run<K: Kind + Copy>(self, kind: &K) -> usize {
         let Ok(code) = set_up(kind, self.sheet) else {
             return 0;
         };

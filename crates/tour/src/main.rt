@@ -1,79 +1,78 @@
-// A journey through the codec, one step after the other, each printed. Today: the sheet of a code over the integers modulo 13 is
-// read, one message is encoded in the code, the word and a damaged one are weighed and checked, and one with more damage is recovered by hints.
+// A journey through the codec, a session with one station, each step printed: it is set up with the sheet of a code over the integers
+// modulo 13, one message is encoded, the word and a damaged one are weighed and checked, and words with damage are recovered, by hints too.
 #![tactic(auto)]
 
-use codes::{Code, Symbols, dual_locators, dual_sheet, encode, message, set_up, syndromes};
+use codes::Symbols;
 use fields::{Kind, Mod13};
-use ranks::weight;
 use rescues::{MORE, rescue};
-use shown::{DAMAGE, MESSAGE, Places, SHEET, damaged, line, refused};
+use sheets::Fault;
+use shown::{DAMAGE, MESSAGE, SHEET, damaged, line};
+use station::Station;
 use std::io;
 
-fn show<K: Kind>(rt: &impl Print, kind: &K, code: &Code) -> io::Result<()> {
-    println!(rt;
-        "code: kind {} over {} elements, dimension {}",
-        kind.number(),
-        kind.size(),
-        code.dimension
-    )?;
-    line(rt, "lengths", code.lengths.as_slice())?;
-    println!(rt; "points{}", Places(code.course.as_slice()))
+// A call that writes: what it wrote, or its refusal.
+fn written(
+    rt: &impl Print,
+    name: &str,
+    answer: Result<(), Fault>,
+    symbols: &[u8],
+) -> io::Result<()> {
+    match answer {
+        Ok(()) => line(rt, name, symbols),
+        Err(fault) => println!(rt; "{name}: {fault}"),
+    }
+}
+
+// A call that answers nothing but whether it is refused.
+fn called(rt: &impl Print, name: &str, answer: Result<(), Fault>) -> io::Result<()> {
+    match answer {
+        Ok(()) => println!(rt; "{name}: done"),
+        Err(fault) => println!(rt; "{name}: {fault}"),
+    }
 }
 
 // A word: its weight, its syndromes, and its message if it is a codeword.
-fn inspect<K: Kind>(
-    rt: &impl Print,
-    kind: &K,
-    code: &Code,
-    duals: &Symbols,
-    word: &[u8],
-) -> io::Result<()> {
+fn inspect<K: Kind>(rt: &impl Print, station: &Station<K>, word: &[u8]) -> io::Result<()> {
     line(rt, "word", word)?;
-    if let Some(w) = weight(kind, code.lengths.as_slice(), word) {
-        println!(rt; "  weight {w}")?;
+    match station.weight(word) {
+        Ok(w) => println!(rt; "  weight {w}")?,
+        Err(fault) => println!(rt; "  weight: {fault}")?,
     }
-    let points = code.course.as_slice();
-    if let Some(s) = syndromes(kind, points, duals.as_slice(), code.dimension, word) {
-        line(rt, "  syndromes", s.as_slice())?;
-    }
-    match message(kind, code, word) {
-        Some(f) => line(rt, "  a codeword, of the message", f.as_slice()),
-        None => println!(rt; "  no codeword"),
-    }
+    let mut syndromes = [0; 2];
+    let checked = station.syndromes(word, &mut syndromes);
+    written(rt, "  syndromes", checked, &syndromes)?;
+    let mut message = [0; 2];
+    let read = station.message(word, &mut message);
+    written(rt, "  message", read, &message)
 }
 
-fn travel<K: Kind>(rt: &impl Print, kind: &K, code: &Code) -> io::Result<()> {
-    show(rt, kind, code)?;
+fn travel<K: Kind>(rt: &impl Print, kind: &K, station: &mut Station<K>) -> io::Result<()> {
+    called(rt, "load", station.load(&MESSAGE))?;
+    line(rt, "sheet", &SHEET)?;
+    called(rt, "set up", station.set_up(&SHEET))?;
+    let mut sheet = [0; 17];
+    let turned = station.dual(&mut sheet);
+    written(rt, "dual sheet", turned, &sheet)?;
     line(rt, "message", &MESSAGE)?;
-    let word = encode(kind, code, &MESSAGE);
-    let Some(duals) = dual_locators(kind, code.course.as_slice()) else {
-        return println!(rt; "no dual locators");
-    };
-    line(rt, "dual locators", duals.as_slice())?;
-    if let Some(sheet) = dual_sheet(kind, code) {
-        line(rt, "dual sheet", sheet.as_slice())?;
+    let mut word = [0; 4];
+    let encoded = station.encode(&MESSAGE, &mut word);
+    written(rt, "encoded", encoded, &word)?;
+    inspect(rt, station, &word)?;
+    let mut sent = Symbols::empty();
+    sent.append(&word);
+    let near = damaged(kind, &sent, &DAMAGE);
+    inspect(rt, station, near.as_slice())?;
+    rescue(rt, station, near.as_slice(), &[])?;
+    let far = damaged(kind, &sent, &MORE);
+    rescue(rt, station, far.as_slice(), &[2])?;
+    rescue(rt, station, far.as_slice(), &[2, 3])?;
+    match station.tally() {
+        Ok(t) => println!(rt; "tally {} words, {} full errors", t.words, t.errors),
+        Err(fault) => println!(rt; "tally: {fault}"),
     }
-    inspect(rt, kind, code, &duals, word.as_slice())?;
-    inspect(
-        rt,
-        kind,
-        code,
-        &duals,
-        damaged(kind, &word, &DAMAGE).as_slice(),
-    )?;
-    rescue(
-        rt,
-        kind,
-        code,
-        damaged(kind, &word, &MORE).as_slice(),
-        &[2, 3],
-    )
 }
 
 fn main(rt: HostRuntime) -> io::Result<()> {
-    line(&rt, "sheet", &SHEET)?;
-    match set_up(&Mod13, &SHEET) {
-        Ok(code) => travel(&rt, &Mod13, &code),
-        Err(fault) => refused(&rt, fault),
-    }
+    let mut station = Station::new(Mod13);
+    travel(&rt, &Mod13, &mut station)
 }

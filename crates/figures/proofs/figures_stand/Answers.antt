@@ -1,21 +1,24 @@
-use Rattle.std.proofs.Common.{◌≡◌, ℕ, suc, ◌+◌, ◌≤◌, true, false, ◌≢◌, [], ◌∷◌, map, sym, refl, ap, ◌∙◌, arith, lit<, lit≤}
-use Rattle.fields.specs.Field.{Laws, comb}
+use Rattle.std.proofs.Common.{◌≡◌, ℕ, suc, ◌+◌, ◌≤◌, true, false, ◌≢◌, [], ◌∷◌, sym, refl, ap, ◌∙◌, arith, lit<, lit≤}
+use Rattle.fields.specs.Field.{comb}
 use Rattle.fields.specs.Residues.{sum, opposite, product, power}
 use Rattle.fields.specs.Elements.{Elem, element, elem, elems, ops}
 use Rattle.fields.specs.Shipped.{gf16, mod13}
 use Rattle.fields.specs.Basics
 use Rattle.fields.proofs.Carrier
+use Rattle.fields.specs.Mod13Laws.{mod13_laws}
 use Rattle.fields.specs.ShippedLaws.{gf16_laws}
 use Rattle.skew.specs.Roots.{Independent}
 use Rattle.codes.specs.Duals.{powers}
 use Rattle.codes.specs.Fitness.{related, dependent, ApartUntil}
-use Rattle.ranks.specs.Ranks.{Spanned, Depends}
-use Rattle.ranks.proofs.Spans
-use Rattle.hints.specs.Splittings.{Parts, Splits}
-use Rattle.figures.specs.Figures.{points_a, told}
+use Rattle.ranks.specs.Ranks.{Depends}
+use Rattle.figures.specs.Figures.{points_a}
 use Rattle.figures.proofs.Small.{none_outside, not_conjugate}
-use Rattle.figures.proofs.Reaching.{spanned_by_none, rank_none, rank_one, weighs_none, full_only, full_splits, word_by_sheet, reaches}
-use Rattle.figures.proofs.Unreached.{laws_13, unreached}
+use Rattle.figures.proofs.Reaching.{word_by_sheet}
+use Rattle.figures.proofs.Unreached.{hinted, nothing_without_hints, nothing_with_one_hint}
+use Rattle.figures.proofs.Answering.{unreached_refused}
+use Rattle.figures.proofs.Reached.{a_one_error, a_two_hints, b_one_error, b_two_hints, b_without_hints}
+use Rattle.figures.proofs.Hinting.{five_dependent, one_spent, hints_called}
+use Rattle.figures.proofs.Recovering.{given, given_unhinted}
 use Rattle.figures.proofs.figures_stand.Goals as goal
 
 -- The sums of A's dual locators with each power of the locators, up to the second.
@@ -26,11 +29,7 @@ null_a (suc ℕ.zero) h = refl
 null_a (suc (suc ℕ.zero)) h = refl
 null_a (suc (suc (suc i))) h = absurd (omega arith)
 
--- The laws of GF(16), on elements.
-laws_16 : Laws (ops gf16)
-laws_16 = Carrier.ops_laws gf16_laws
-
--- In kind 2 the codes 2, 6, 8 and 12 are not zero.
+-- In kind 2 the codes 2 and 6 are not zero.
 two : elem gf16 2 ≢ (ops gf16).zero
 unfolding element ops
 two e = omega (arith, ap (λ (x : Elem gf16). x.code) e)
@@ -38,27 +37,6 @@ two e = omega (arith, ap (λ (x : Elem gf16). x.code) e)
 six : elem gf16 6 ≢ (ops gf16).zero
 unfolding element ops
 six e = omega (arith, ap (λ (x : Elem gf16). x.code) e)
-
-eight : elem gf16 8 ≢ (ops gf16).zero
-unfolding element ops
-eight e = omega (arith, ap (λ (x : Elem gf16). x.code) e)
-
-twelve : elem gf16 12 ≢ (ops gf16).zero
-unfolding element ops
-twelve e = omega (arith, ap (λ (x : Elem gf16). x.code) e)
-
--- 5 is a fixed multiple of 8.
-five_from_eight : Spanned (ops gf16) (elem gf16 8 ∷ []) (elem gf16 5)
-unfolding element ops sum product power
-five_from_eight = (elem gf16 6 ∷ [], refl, (refl, tt), refl)
-
--- In A the difference 1 is column part where its symbol is given up.
-abbrev column_13 : Parts (Elem mod13)
-column_13 = record { full = elems mod13 (0 ∷ []); row = elems mod13 (0 ∷ []); column = elems mod13 (1 ∷ []) }
-
-column_13_splits : Splits (ops mod13) (told mod13 [] ((1 ∷ []) ∷ [])) (elems mod13 (1 ∷ [])) column_13
-unfolding element ops
-column_13_splits = record { sum = refl; full_size = refl; row_size = refl; rows = (([], refl, tt, refl), tt); columns = (elem mod13 1 ∷ [], refl, refl) }
 
 -- The parameters 1 and 2 of B are apart.
 apart_b : ApartUntil gf16 (1 ∷ 2 ∷ []) 2
@@ -119,28 +97,25 @@ returns c = record {
       dependent (record { parameters = none_outside gf16 1 (1 ∷ 2 ∷ []) tt; locators = none_outside gf16 0 (1 ∷ 6 ∷ 1 ∷ 2 ∷ []) tt; apart = apart_b })
       (record { front = []; size = 2; rest = 2 ∷ []; place = 1; lengths_are = refl; before = λ b i h. absurd (omega arith); here = depends_b; fault = refl });
   a_word = λ c made. word_by_sheet made (elems mod13 (5 ∷ 3 ∷ [])) refl;
-  a_one_error = λ c made.
-      reaches made (elems mod13 (5 ∷ 3 ∷ [])) (map (λ e. full_only (ops mod13) (elems mod13 e)) ((0 ∷ []) ∷ (1 ∷ []) ∷ (0 ∷ []) ∷ (0 ∷ []) ∷ [])) refl refl
-      (full_splits laws_13 _, (full_splits laws_13 _, (full_splits laws_13 _, (full_splits laws_13 _, tt)))) refl
-      (0, rank_none laws_13 (elems mod13 (0 ∷ [])) (refl, tt), 1, (1, rank_one laws_13 _ [] laws_13.one_zero tt, 0, weighs_none laws_13 (map (elems mod13) ((0 ∷ []) ∷ (0 ∷ []) ∷ [])) ((refl, tt), ((refl, tt), tt)), refl), refl) (lit≤ tt);
-  a_two_errors = λ c made v. unreached 2 (false ∷ false ∷ false ∷ false ∷ []) tt (lit< tt) c made v;
-  a_one_hint = λ c made v. unreached 1 (false ∷ true ∷ false ∷ false ∷ []) tt (lit< tt) c made v;
-  a_two_hints = λ c made.
-      reaches made (elems mod13 (5 ∷ 3 ∷ [])) (full_only (ops mod13) (elems mod13 (0 ∷ [])) ∷ column_13 ∷ column_13 ∷ full_only (ops mod13) (elems mod13 (0 ∷ [])) ∷ []) refl refl
-      (full_splits laws_13 _, (column_13_splits, (column_13_splits, (full_splits laws_13 _, tt)))) refl
-      (weighs_none laws_13 (map (elems mod13) ((0 ∷ []) ∷ (0 ∷ []) ∷ (0 ∷ []) ∷ (0 ∷ []) ∷ [])) ((refl, tt), ((refl, tt), ((refl, tt), ((refl, tt), tt))))) (lit≤ tt);
-  b_one_error = λ c made.
-      reaches made (elems gf16 (1 ∷ 1 ∷ [])) (map (λ e. full_only (ops gf16) (elems gf16 e)) ((8 ∷ 5 ∷ []) ∷ (0 ∷ 0 ∷ []) ∷ [])) refl refl
-      (full_splits laws_16 _, (full_splits laws_16 _, tt)) refl
-      (1, rank_one laws_16 (elem gf16 8) (elem gf16 5 ∷ []) eight (five_from_eight, tt), 0, weighs_none laws_16 (elems gf16 (0 ∷ 0 ∷ []) ∷ []) ((refl, (refl, tt)), tt), refl) (lit≤ tt);
-  b_two_hints = λ c made.
-      reaches made (elems gf16 (1 ∷ 1 ∷ [])) (record { full = elems gf16 (0 ∷ 0 ∷ []); row = elems gf16 (8 ∷ 5 ∷ []); column = elems gf16 (0 ∷ 0 ∷ []) } ∷ record { full = elems gf16 (0 ∷ 0 ∷ []); row = elems gf16 (0 ∷ 0 ∷ []); column = elems gf16 (0 ∷ 9 ∷ []) } ∷ []) refl refl
-      (record { sum = refl; full_size = refl; row_size = refl; rows = (Spans.spanned_first laws_16 (elem gf16 8) [], (five_from_eight, tt)); columns = ([], refl, refl) }, (record { sum = refl; full_size = refl; row_size = refl; rows = (([], refl, tt, refl), (([], refl, tt, refl), tt)); columns = (elem gf16 9 ∷ [], refl, refl) }, tt)) refl
-      (weighs_none laws_16 (map (elems gf16) ((0 ∷ 0 ∷ []) ∷ (0 ∷ 0 ∷ []) ∷ [])) ((refl, (refl, tt)), ((refl, (refl, tt)), tt))) (lit≤ tt);
-  b_without_hints = λ c made.
-      reaches made (elems gf16 (8 ∷ 12 ∷ [])) (map (λ e. full_only (ops gf16) (elems gf16 e)) ((12 ∷ 0 ∷ []) ∷ (0 ∷ 0 ∷ []) ∷ [])) refl refl
-      (full_splits laws_16 _, (full_splits laws_16 _, tt)) refl
-      (1, rank_one laws_16 (elem gf16 12) (elem gf16 0 ∷ []) twelve (Spans.spanned_zero laws_16 _, tt), 0, weighs_none laws_16 (elems gf16 (0 ∷ 0 ∷ []) ∷ []) ((refl, (refl, tt)), tt), refl) (lit≤ tt);
-  b_dependent_hint = ((lit≤ tt, lit≤ tt), lit< tt, five_from_eight);
-  b_spent = ((lit≤ tt, lit≤ tt), lit< tt, (λ s. laws_16.one_zero (spanned_by_none laws_16 (elem gf16 1) s)), (λ left. omega (arith, left)));
+  a_one_error = λ c made. a_one_error made;
+  a_two_errors = λ c made. nothing_without_hints made;
+  a_one_hint = λ c made. nothing_with_one_hint made;
+  a_two_hints = λ c made. a_two_hints made;
+  b_one_error = λ c made. b_one_error made;
+  b_two_hints = λ c made. b_two_hints made;
+  b_without_hints = λ c made. b_without_hints made;
+  b_dependent_hint = five_dependent;
+  b_spent = one_spent;
+  b_hints_called = λ c made t rs q h. hints_called made t (8 ∷ 4 ∷ 3 ∷ 13 ∷ []) rs q h;
+  a_two_errors_called = λ c made t room a q h. (unreached_refused c (8 ∷ 12 ∷ 2 ∷ 4 ∷ []) (hinted (false ∷ false ∷ false ∷ false ∷ [])) t room (nothing_without_hints made) a q h).0;
+  a_one_hint_called = λ c made t room a q h. (unreached_refused c (8 ∷ 12 ∷ 2 ∷ 4 ∷ []) (hinted (false ∷ true ∷ false ∷ false ∷ [])) t room (nothing_with_one_hint made) a q h).0;
+  a_one_error_called = λ c made.
+      given_unhinted mod13_laws made (8 ∷ 12 ∷ 1 ∷ 4 ∷ []) (8 ∷ 11 ∷ 1 ∷ 4 ∷ []) refl (tt, (tt, (tt, (tt, tt)))) refl 1 (a_one_error made).0 (a_one_error made).1 4 refl;
+  a_two_hints_called = λ c made.
+      given mod13_laws made (8 ∷ 12 ∷ 2 ∷ 4 ∷ []) (8 ∷ 11 ∷ 1 ∷ 4 ∷ []) refl (tt, (((refl, (refl, tt)), tt), (((refl, (refl, tt)), tt), (tt, tt)))) refl 0 (a_two_hints made).0 (a_two_hints made).1 refl;
+  b_one_error_called = λ c made. given_unhinted gf16_laws made (8 ∷ 4 ∷ 3 ∷ 4 ∷ []) (0 ∷ 1 ∷ 3 ∷ 4 ∷ []) refl (tt, (tt, tt)) refl 1 (b_one_error made).0 (b_one_error made).1 2 refl;
+  b_two_hints_called = λ c made.
+      given gf16_laws made (8 ∷ 4 ∷ 3 ∷ 13 ∷ []) (0 ∷ 1 ∷ 3 ∷ 4 ∷ []) refl (tt, (((refl, (refl, (refl, tt))), tt), tt)) refl 0 (b_two_hints made).0 (b_two_hints made).1 refl;
+  b_without_hints_called = λ c made.
+      given_unhinted gf16_laws made (8 ∷ 4 ∷ 3 ∷ 13 ∷ []) (4 ∷ 4 ∷ 3 ∷ 13 ∷ []) refl (tt, (tt, tt)) refl 1 (b_without_hints made).0 (b_without_hints made).1 2 refl;
 }

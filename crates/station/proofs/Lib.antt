@@ -1,0 +1,11 @@
+pub mod Exactness
+pub mod Reported
+pub mod Settled
+pub mod Hinted
+pub mod FreshRows
+pub mod Keeping
+pub mod Decoding
+pub mod Agreeing
+pub mod Promised
+pub mod Solving
+pub mod Recounting
