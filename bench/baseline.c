@@ -1,5 +1,5 @@
 #include "baseline.h"
-#include "kinds.h"
+#include "mirrors.h"
 #include <string.h>
 
 struct polynomial {
@@ -45,6 +45,22 @@ struct recovery {
 #include "decoder.inc"
 #undef OF
 
+#define OF(name) mirror256_##name
+#include "decoder.inc"
+#undef OF
+
+#define OF(name) mirror16_##name
+#include "decoder.inc"
+#undef OF
+
+#define OF(name) mirror81_##name
+#include "decoder.inc"
+#undef OF
+
+#define OF(name) mirror13_##name
+#include "decoder.inc"
+#undef OF
+
 const struct field *plain_field(uint8_t kind) {
     switch (kind) {
     case 1: return &gf256_field;
@@ -52,6 +68,10 @@ const struct field *plain_field(uint8_t kind) {
     case 3: return &gf81_field;
     case 4: return &mod13_field;
     case 200: return &over16_field;
+    case 129: return &mirror256_field;
+    case 130: return &mirror16_field;
+    case 131: return &mirror81_field;
+    case 132: return &mirror13_field;
     default: return NULL;
     }
 }
@@ -83,6 +103,54 @@ size_t plain_time_recover(const uint8_t *setting, size_t setting_len, const uint
     case 3: return gf81_recover_all(&code, told, words, out, len);
     case 4: return mod13_recover_all(&code, told, words, out, len);
     case 200: return over16_recover_all(&code, told, words, out, len);
+    case 129: return mirror256_recover_all(&code, told, words, out, len);
+    case 130: return mirror16_recover_all(&code, told, words, out, len);
+    case 131: return mirror81_recover_all(&code, told, words, out, len);
+    case 132: return mirror13_recover_all(&code, told, words, out, len);
     default: return 0;
     }
+}
+
+/* Text. */
+
+static uint8_t *put_text(uint8_t *out, const char *s) {
+    while (*s != 0) *out++ = (uint8_t)*s++;
+    return out;
+}
+
+static uint8_t *put_number(uint8_t *out, size_t x) {
+    if (x >= 10) out = put_number(out, x / 10);
+    *out++ = (uint8_t)('0' + x % 10);
+    return out;
+}
+
+static uint8_t *put_symbols(uint8_t *out, const uint8_t *symbols, size_t n) {
+    for (size_t i = 0; i < n; i++) {
+        *out++ = ' ';
+        out = put_number(out, symbols[i]);
+    }
+    *out++ = '\n';
+    return out;
+}
+
+static uint8_t *put_part(uint8_t *out, const char *name, size_t count, const uint8_t *symbols, size_t n) {
+    return put_symbols(put_number(put_text(out, name), count), symbols, n);
+}
+
+size_t plain_job(const uint8_t *job, size_t job_len, uint8_t *text) {
+    struct code code;
+    struct hints hints;
+    struct recovery r;
+    const uint8_t *rest = read_sheet(job, &code);
+    uint8_t *out = text;
+    if (!plain_field(code.kind)->run(&code, rest, &hints, &r)) {
+        out = put_number(put_text(out, "refused 14 layer 3 place "), job_len);
+        return (size_t)(put_text(out, "\n") - text);
+    }
+    out = put_symbols(put_text(out, "word"), r.codeword, code.n);
+    out = put_symbols(put_text(out, "message"), r.message, code.k);
+    out = put_part(out, "full ", r.errors, r.parts.full, code.n);
+    out = put_part(out, "row ", hints.row_count, r.parts.row, code.n);
+    out = put_part(out, "column ", hints.column_count, r.parts.column, code.n);
+    return (size_t)(out - text);
 }

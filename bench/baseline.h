@@ -26,7 +26,9 @@ struct hints {
     size_t row_count, column_count;
 };
 
-/* The operations of a kind, for whoever makes words; the decoder does not go through these. */
+struct recovery;
+
+/* The operations of a kind, for whoever makes words and for whole jobs; the decoder does not go through these. */
 struct field {
     unsigned size, width;
     const uint8_t *basis;
@@ -35,13 +37,17 @@ struct field {
     uint8_t (*twist)(uint8_t);
     void (*encode)(const struct code *, const uint8_t *message, uint8_t *word);
     size_t (*weight)(const struct code *, const uint8_t *word);
+    bool (*run)(const struct code *, const uint8_t *rest, struct hints *, struct recovery *);
 };
 
-/* The operations of kind 1, 2, 3, 4 or 200; NULL for any other. */
+/* The operations of kind 1, 2, 3, 4 or 200, and of the mirrors of the first four, 129 to 132; NULL for any other. */
 const struct field *plain_field(uint8_t kind);
 
 /* Recovers each n-symbol word in turn. The setting is what lrs_time_recover takes, and so is all else; but it has to be right. */
 size_t plain_time_recover(const uint8_t *setting, size_t setting_len, const uint8_t *words, size_t words_len, uint8_t *out,
                           size_t out_len);
+
+/* Runs a job, as lrs_job does, and writes its text; it has to be right, and the text has to have room. */
+size_t plain_job(const uint8_t *job, size_t job_len, uint8_t *text);
 
 #endif

@@ -1,11 +1,9 @@
 /* Times the verified decoder, a plain one and libfec in one run, and prints a table. With -DPLAIN_ONLY the verified one is left out.
    An argument is the number of the only kind to be timed. */
-#include "baseline.h"
+#include "damage.h"
 #include <fec.h>
 #include <stdio.h>
 #include <stdlib.h>
-#include <string.h>
-#include <time.h>
 
 #ifndef PLAIN_ONLY
 size_t lrs_time_recover(const uint8_t *setting, size_t setting_len, const uint8_t *words, size_t words_len, uint8_t *out,
@@ -27,38 +25,6 @@ static struct trial trial;
 static uint8_t answer[ROOM];
 static int faults;
 
-static uint64_t state = 88172645463325252u;
-
-static unsigned draw(unsigned below) {
-    state ^= state << 13;
-    state ^= state >> 7;
-    state ^= state << 17;
-    return (unsigned)((state >> 32) % below);
-}
-
-static double now(void) {
-    struct timespec t;
-    clock_gettime(CLOCK_MONOTONIC, &t);
-    return t.tv_sec + t.tv_nsec * 1e-9;
-}
-
-/* Codes. */
-
-/* As many blocks as given, of full length: the parameters are powers of the generator, the locators of each block the basis. */
-static struct code full_code(uint8_t kind, uint8_t generator, size_t blocks) {
-    const struct field *f = plain_field(kind);
-    struct code code = {.kind = kind, .blocks = blocks};
-    uint8_t power = 1;
-    for (size_t b = 0; b < blocks; b++) {
-        code.lengths[b] = f->width;
-        code.parameters[b] = power;
-        power = f->product(power, generator);
-        for (size_t i = 0; i < f->width; i++) code.locators[code.n++] = f->basis[i];
-    }
-    code.k = code.n / 2;
-    return code;
-}
-
 static void put(struct trial *t, uint8_t x) { t->setting[t->setting_len++] = x; }
 
 static void put_all(struct trial *t, const uint8_t *xs, size_t n) {
@@ -76,88 +42,27 @@ static void put_sheet(struct trial *t, const struct code *code) {
     put_all(t, code->locators, code->n);
 }
 
-/* Damage. */
-
-static uint8_t fixed_element(const struct field *f) {
-    for (;;) {
-        uint8_t x = draw(f->size);
-        if (f->twist(x) == x) return x;
-    }
-}
-
-static void add(const struct field *f, uint8_t *x, uint8_t y) { *x = f->sum(*x, y); }
-
-static size_t start_of(const struct code *code, size_t block) {
-    size_t at = 0;
-    for (size_t b = 0; b < block; b++) at += code->lengths[b];
-    return at;
-}
-
-/* Adds an element times a row of fixed coefficients to a block. */
-static void add_rank_one(const struct code *code, size_t block, uint8_t element, uint8_t *word) {
-    const struct field *f = plain_field(code->kind);
-    size_t at = start_of(code, block);
-    for (size_t i = 0; i < code->lengths[block]; i++) add(f, &word[at + i], f->product(element, fixed_element(f)));
-}
-
-/* An error of exactly this weight. */
-static void full_error(const struct code *code, size_t weight, uint8_t *word) {
-    const struct field *f = plain_field(code->kind);
-    do {
-        memset(word, 0, code->n);
-        for (size_t i = 0; i < weight; i++) add_rank_one(code, draw(code->blocks), 1 + draw(f->size - 1), word);
-    } while (f->weight(code, word) != weight);
-}
-
-/* The hints stand in blocks of their own: first the rows, then the columns. */
-struct told {
-    uint8_t elements[MOST_BLOCKS], columns[MOST_BLOCKS][MOST_IN_BLOCK];
-};
-
-static void put_hints(struct trial *t, const struct code *code, struct told *told) {
-    const struct field *f = plain_field(code->kind);
-    put(t, t->rows);
-    for (size_t i = 0; i < t->rows; i++) {
-        told->elements[i] = 1 + draw(f->size - 1);
+static void put_hints(struct trial *t, const struct code *code, const struct told *told) {
+    put(t, told->rows);
+    for (size_t i = 0; i < told->rows; i++) {
         put(t, 1 + i);
         put(t, told->elements[i]);
     }
-    put(t, t->columns);
-    for (size_t i = 0; i < t->columns; i++) {
-        size_t block = t->rows + i, n = code->lengths[block];
-        for (size_t p = 0; p < n; p++) told->columns[i][p] = fixed_element(f);
-        told->columns[i][draw(n)] = 1;
+    put(t, told->columns);
+    for (size_t i = 0; i < told->columns; i++) {
+        size_t block = told->rows + i;
         put(t, 1 + block);
-        put_all(t, told->columns[i], n);
-    }
-}
-
-static void hinted_error(const struct trial *t, const struct code *code, const struct told *told, uint8_t *word) {
-    const struct field *f = plain_field(code->kind);
-    for (size_t i = 0; i < t->rows; i++) add_rank_one(code, i, told->elements[i], word);
-    for (size_t i = 0; i < t->columns; i++) {
-        size_t at = start_of(code, t->rows + i), n = code->lengths[t->rows + i];
-        uint8_t x = draw(f->size);
-        for (size_t p = 0; p < n; p++) add(f, &word[at + p], f->product(x, told->columns[i][p]));
+        put_all(t, told->coefficients[i], code->lengths[block]);
     }
 }
 
 static void make_words(struct trial *t, const struct code *code) {
-    const struct field *f = plain_field(code->kind);
-    struct told told;
+    struct told told = draw_hints(code, t->rows, t->columns);
     put_sheet(t, code);
     put_hints(t, code, &told);
     t->n = code->n;
     t->k = code->k;
-    for (size_t w = 0; w < WORDS; w++) {
-        uint8_t message[MOST_SYMBOLS], error[MOST_SYMBOLS];
-        uint8_t *sent = t->sent + w * code->n, *came = t->came + w * code->n;
-        for (size_t i = 0; i < code->k; i++) message[i] = draw(f->size);
-        f->encode(code, message, sent);
-        full_error(code, t->errors, error);
-        hinted_error(t, code, &told, error);
-        for (size_t i = 0; i < code->n; i++) came[i] = f->sum(sent[i], error[i]);
-    }
+    for (size_t w = 0; w < WORDS; w++) send(code, t->errors, &told, t->sent + w * code->n, t->came + w * code->n);
 }
 
 /* Timing. */

@@ -117,23 +117,19 @@ static inline struct trits trits_scale(uint8_t c, struct trits f) {
     return (struct trits){c * f.c0 % 3, c * f.c1 % 3, c * f.c2 % 3, c * f.c3 % 3};
 }
 
-static inline struct trits trits_raise(struct trits f) {
-    struct trits moved = {0, f.c0, f.c1, f.c2}, low = {2, 1, 0, 0};
-    return trits_sum(moved, trits_scale(f.c3 * 2, low));
-}
-
+/* z^4 is 2 z + 1. */
 static inline struct trits trits_product(struct trits f, struct trits g) {
-    struct trits inner = trits_scale(g.c3, f);
-    struct trits middle = trits_sum(trits_scale(g.c2, f), trits_raise(inner));
-    struct trits outer = trits_sum(trits_scale(g.c1, f), trits_raise(middle));
-    return trits_sum(trits_scale(g.c0, f), trits_raise(outer));
+    unsigned z4 = f.c1 * g.c3 + f.c2 * g.c2 + f.c3 * g.c1, z5 = f.c2 * g.c3 + f.c3 * g.c2, z6 = f.c3 * g.c3;
+    return (struct trits){(f.c0 * g.c0 + z4) % 3, (f.c0 * g.c1 + f.c1 * g.c0 + 2 * z4 + z5) % 3,
+                          (f.c0 * g.c2 + f.c1 * g.c1 + f.c2 * g.c0 + 2 * z5 + z6) % 3,
+                          (f.c0 * g.c3 + f.c1 * g.c2 + f.c2 * g.c1 + f.c3 * g.c0 + 2 * z6) % 3};
 }
 
 static inline uint8_t gf81_sum(uint8_t a, uint8_t b) { return joined(trits_sum(trits_of(a), trits_of(b))); }
 static inline uint8_t gf81_opposite(uint8_t a) { return joined(trits_scale(2, trits_of(a))); }
 static inline uint8_t gf81_product(uint8_t a, uint8_t b) { return joined(trits_product(trits_of(a), trits_of(b))); }
-static inline uint8_t gf81_twist(uint8_t a) { return gf81_product(a, gf81_product(a, a)); }
-static inline uint8_t gf81_untwist(uint8_t a) { return gf81_twist(gf81_twist(gf81_twist(a))); }
+static inline uint8_t gf81_twist(uint8_t a) { return CUBES[a]; }
+static inline uint8_t gf81_untwist(uint8_t a) { return CUBE_ROOTS[a]; }
 
 /* The power 79. */
 static inline uint8_t gf81_inverse(uint8_t a) {

@@ -4,13 +4,16 @@ limits, histories, and long lists, over every kind.
 
   calls.py >../crates/station_checks/stdin
 """
-from codes import drawn, sheet
-from histories import equivalent, left_over, long_list, overlapping, reach, turned
-from limits import every_call, far, limits
-from recovery import pick
+from codes import sheet
+from drawing import drawn, pick
+from every_call import every_call
+from every_kind import EVERY
+from histories import equivalent, left_over, overlapping, reach, turned
+from limits import far, limits
+from long_lists import long_list
 from script import Script
 from skew import Random
-from station import EVERY, HELD, READY, SOLVED
+from station_rules import HELD, READY, SOLVED
 
 # For each kind a generator, of which the powers are not conjugate for as many blocks as there may be.
 PLANS = {1: (2, 3), 2: (2, 3), 3: (3, 2), 4: (2, 12), 200: (2, 12), 129: (2, 3), 130: (2, 3), 131: (3, 2), 132: (2, 12), 72: (2, 12)}

@@ -14,9 +14,10 @@ program looks itself whether what it reads is a splitting.
 """
 import sys
 
+from every_kind import EVERY
 from recovery import less
 from sheets import judge as read
-from station import EVERY, Station, text
+from station import Station, text
 
 NUMBERS = (1, 2, 3, 4, 129, 130, 131, 132)
 MISSING, EXTRA, LIMIT, BLOCK = 1, 2, 4, 11

@@ -2,7 +2,8 @@
 """A list of calls as it is made: each is printed, and a station of station.py answers along, so that what follows can be chosen by its state.
 The lists are kept, and no answer is."""
 from codes import encode
-from station import EVERY, Station
+from every_kind import EVERY
+from station import Station
 
 # Blocks and items far above all that there are.
 HUGE = 2 ** 64 - 1

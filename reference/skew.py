@@ -5,6 +5,7 @@ by solving linear equations. Nothing is shared with the codec.
   skew.py        prints what the program crate skew_checks has to print
 """
 from fields import Mirror, kinds
+from linear import solutions
 
 
 class Random:
@@ -54,35 +55,19 @@ def product(kind, f, g):
     return out
 
 
-def solve(kind, rows, wanted):
-    """The one solution of a square system with these rows."""
-    n = len(rows)
-    m = [[kind.clip(x) for x in row] + [kind.clip(w)] for row, w in zip(rows, wanted)]
-    for c in range(n):
-        p = next(i for i in range(c, n) if m[i][c])
-        m[c], m[p] = m[p], m[c]
-        inv = kind.inverse(m[c][c])
-        m[c] = [kind.product(inv, x) for x in m[c]]
-        for i in range(n):
-            if i != c and m[i][c]:
-                k = kind.opposite(m[i][c])
-                m[i] = [kind.sum(x, kind.product(k, y)) for x, y in zip(m[i], m[c])]
-    return [row[-1] for row in m]
-
-
 def powers(kind, n, a, b):
     return [kind.product(twisted(kind, b, i), norm(kind, i, a)) for i in range(n)]
 
 
 def interpolate(kind, points, values):
-    return solve(kind, [powers(kind, len(points), a, b) for a, b in points], values)
+    return solutions(kind, [powers(kind, len(points), a, b) for a, b in points], values)
 
 
 def annihilator(kind, points):
     """Lowest n coefficients from the equations, and a leading one: the points are lawful."""
     n = len(points)
     rows = [powers(kind, n + 1, a, b) for a, b in points]
-    return solve(kind, [r[:n] for r in rows], [kind.opposite(r[n]) for r in rows]) + [1]
+    return solutions(kind, [r[:n] for r in rows], [kind.opposite(r[n]) for r in rows]) + [1]
 
 
 def left_quotient(kind, dividend, divisor, k):

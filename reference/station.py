@@ -3,7 +3,7 @@
 against it. Words are recovered by recovery.py, by other means than the codec's. Nothing is shared with the codec.
 
   station.py        reads lists of calls and prints what the program crate station_checks has to print of them, and then of the
-                    million words that fill a tally
+                    million words that fill a tally, which stand in million.py
 
 The lists are made by calls.py. So the stored files of the program are made anew in this folder by
 
@@ -24,45 +24,11 @@ import sys
 from functools import cache
 
 import codes
-from fields import Mirror, kinds
+from every_kind import EVERY
+from fields import Mirror
 from recovery import less, recover, takes
-
-EVERY = {k.number: k for kind in kinds() for k in (kind, Mirror(kind))}
-
-BARE, READY, HELD, SOLVED = 'bare', 'ready', 'held', 'solved'
-ALL_BUT_BARE = (READY, HELD, SOLVED)
-OPEN = {
-    'set_up': (BARE,),
-    'load': (READY,),
-    'row': (HELD,),
-    'column': (HELD,),
-    'decode': (HELD,),
-    'read': (SOLVED,),
-    'clear': (HELD, SOLVED),
-    'encode': ALL_BUT_BARE,
-    'message': ALL_BUT_BARE,
-    'syndromes': ALL_BUT_BARE,
-    'dual': ALL_BUT_BARE,
-    'weight': ALL_BUT_BARE,
-    'tally': ALL_BUT_BARE,
-}
-NOT_OPEN, WRONG_LENGTH, NO_SYMBOL, OUT_OF_RANGE, DEPENDENT, SPENT, OUT_OF_REACH, FULL_TALLY, NO_CODEWORD, NO_DUAL = range(8, 18)
-NOT_TAKEN = {'no block': OUT_OF_RANGE, 'wrong length': WRONG_LENGTH, 'dependent': DEPENDENT, 'spent': SPENT}
-INPUT, OUTPUT = 0, 1
-FULL = 1000000
-
-
-class Refused(Exception):
-    """Its text is the line that is printed."""
-
-
-def refuse(number, place=0):
-    raise Refused('refused %d layer 3 place %d' % (number, place))
-
-
-def exact(length, wanted, which):
-    if length != wanted:
-        refuse(WRONG_LENGTH, which)
+from station_rules import (BARE, FULL, FULL_TALLY, HELD, INPUT, NO_CODEWORD, NO_DUAL, NO_SYMBOL, NOT_OPEN, NOT_TAKEN, OPEN, OUT_OF_RANGE,
+                           OUT_OF_REACH, OUTPUT, READY, SOLVED, Refused, exact, refuse)
 
 
 def text(*words):
@@ -209,29 +175,9 @@ def answer(station, line):
     return station.call(name, *map(int, numbers))
 
 
-# The million words: a code of three blocks of one symbol; five words, which come round until all but one of a million are recovered;
-# and the calls that follow, by which one more is recovered and then none.
-SHEET = (4, 1, 3, 1, 1, 1, 3, 1, 2, 3, 3, 1, 1, 1)
-ROUND = ((5, 5, 5), (7, 7, 0), (12, 3, 12), (0, 0, 0), (1, 9, 9))
-CALLS = (
-    'tally', 'load 0 1 2', 'decode', 'tally', 'clear',
-    'load 8 8 4', 'decode', 'tally', 'read 0 1', 'read 1 3', 'read 2 3', 'decode', 'clear', 'tally',
-    'load 8 8 4', 'decode', 'row 1 6', 'row 1 5', 'decode', 'column 2 1', 'row 3 4', 'decode', 'read 1 3', 'tally', 'clear',
-    'load 0 1 2', 'decode', 'encode 3 4', 'message 1 4 4 4', 'message 1 4 4 5', 'syndromes 2 8 8 4', 'dual 14', 'weight 8 8 4', 'clear', 'tally',
-)
-
-
-def million():
-    station = Station(EVERY[4])
-    assert station.call('set_up', *SHEET) == 'ok'
-    for i in range(FULL - 1):
-        answers = station.call('load', *ROUND[i % len(ROUND)]), station.call('decode'), station.call('clear')
-        assert answers == ('ok', 'ok', 'ok')
-    for line in CALLS:
-        print(answer(station, line))
-
-
 def main():
+    # these stand on the definitions above
+    from million import million
     station = None
     for line in sys.stdin:
         line = line.strip()

@@ -7,7 +7,8 @@ use Rattle.fields.specs.Meaning.{clip, inverted, digit_row}
 use Rattle.fields.specs.Residues.{sum, opposite, product, power, trace, traces}
 use Rattle.fields.specs.Shipped.{modulus256}
 use Rattle.fields.specs.Range.{at, unless0, from0}
-use Rattle.fields.specs.Rings.{ring256, power_code}
+use Rattle.fields.specs.Rings.{ring256}
+use Rattle.fields.specs.CodePowers.{power_code}
 use Rattle.fields.proofs.Binary.{sum_xor, opposite_same}
 use Rattle.fields.specs.ResidueKinds.{power_zero}
 use Rattle.fields.specs.Generators.{chain, chain_power, log_below, power_at, product_doubled, power_of_at}

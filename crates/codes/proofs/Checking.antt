@@ -19,9 +19,9 @@ use Rattle.skew.specs.Annihilators.{places}
 use Rattle.skew.proofs.Values.{term_step}
 use Rattle.skew.proofs.Sums.{cons_path}
 use Rattle.skew.proofs.Growing.{code_of_zero}
+use Rattle.skew.proofs.Vanishing
 use Rattle.codes.specs.Duals.{powers, dual_points, syndrome}
 use Rattle.codes.specs.DualAnswers.{Checked, advanced}
-use Rattle.codes.proofs.Combs
 use Rattle.codes.proofs.Mirrors
 use Rattle.codes.proofs.Holding.{Filling, fill, uncut}
 use Rattle.codes.proofs.Multipliers.{length_places, length_scaled, sharp_places}
@@ -38,8 +38,8 @@ pub record Checking (m : Meaning) (ps : List Point) (ds w : List ℕ) (j : ℕ) 
 module _ {F : Type 0} {o : field.Ops F} (l : field.Laws o) where
   -- A sum from the place i on, by the symbol there; past the end it is zero.
   comb_at : (x : F) (xs ys : List F) (i : ℕ) → comb o (x ∷ xs) (drop i ys) ≡ o.add (o.mul x (coef o ys i)) (comb o xs (drop (suc i) ys))
-  comb_at x xs [] ℕ.zero = sym (ap (o.add (o.mul x o.zero)) (Combs.comb_null l xs [] tt) ∙ Basics.add_zero l _ ∙ Basics.mul_zero l x)
-  comb_at x xs [] (suc i) = sym (ap (o.add (o.mul x o.zero)) (Combs.comb_null l xs [] tt) ∙ Basics.add_zero l _ ∙ Basics.mul_zero l x)
+  comb_at x xs [] ℕ.zero = sym (ap (o.add (o.mul x o.zero)) (Vanishing.comb_null l xs [] tt) ∙ Basics.add_zero l _ ∙ Basics.mul_zero l x)
+  comb_at x xs [] (suc i) = sym (ap (o.add (o.mul x o.zero)) (Vanishing.comb_null l xs [] tt) ∙ Basics.add_zero l _ ∙ Basics.mul_zero l x)
   comb_at x xs (y ∷ ys) ℕ.zero = refl
   comb_at x xs (y ∷ ys) (suc i) = comb_at x xs ys i
 
@@ -90,7 +90,7 @@ module _ {m : Meaning} (l : Laws m) where
   -- Also where the other row ends there.
   pub sum_ends_shorter : {xs ys : List ℕ} {i t : ℕ} → i ≡ min (length xs) (length ys) → Summing m xs ys i t → t ≡ (comb (ops m) (elems m xs) (elems m ys)).code
   sum_ends_shorter {xs} {ys} {i} {t} n s = elim (cases_lt i (length xs)) [
-    | inl h ↦ told s (ap (comb (ops m) (elems m (drop i xs))) (drop_all i (elems m ys) (omega (arith, length-map ys (elem m)))) ∙ Combs.comb_null laws (elems m (drop i xs)) [] tt)
+    | inl h ↦ told s (ap (comb (ops m) (elems m (drop i xs))) (drop_all i (elems m ys) (omega (arith, length-map ys (elem m)))) ∙ Vanishing.comb_null laws (elems m (drop i xs)) [] tt)
     | inr h ↦ sum_ends h s
   ]
 

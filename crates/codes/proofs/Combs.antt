@@ -4,14 +4,14 @@
 --   series o u f     the sum of f_i × u_i
 use Rattle.std.proofs.Common.{◌≡◌, ℕ, suc, ◌<◌, ◌≤◌, List, [], ◌∷◌, map, length, sym, refl, ap, ◌∙◌, arith}
 use Rattle.std.proofs.lemmas.List.{length-map}
-use Rattle.std.specs.List.{AllByRecursion}
-use Rattle.fields.specs.Field.{Ops, Laws, Zero, comb}
+use Rattle.fields.specs.Field.{Ops, Laws, comb}
 use Rattle.fields.specs.Basics
 use Rattle.fields.specs.Basics.{ring}
 use Rattle.skew.specs.Values.{twisted, norm, series}
 use Rattle.skew.specs.Products.{coef}
 use Rattle.skew.specs.Interpolation.{values}
 use Rattle.codes.specs.Duals.{powers}
+use Rattle.ranks.proofs.Mixing
 
 module _ {F : Type 0} {o : Ops F} (l : Laws o) where
   open o use {zero, one, add as ◌+◌, mul as ◌*◌}
@@ -25,18 +25,6 @@ module _ {F : Type 0} {o : Ops F} (l : Laws o) where
   comb_comm (x ∷ xs) [] = refl
   comb_comm (x ∷ xs) (y ∷ ys) = ap (λ w. w + comb o xs ys) (Basics.mul_comm l x y) ∙ ap (λ w. y * x + w) (comb_comm xs ys)
 
-  -- A row of zeros.
-  pub comb_null : (xs ys : List F) → AllByRecursion (Zero o) ys → comb o xs ys ≡ zero
-  comb_null [] ys h = refl
-  comb_null (x ∷ xs) [] h = refl
-  comb_null (x ∷ xs) (y ∷ ys) h = ap (λ w. x * w + comb o xs ys) h.0 ∙ ap (λ w. x * zero + w) (comb_null xs ys h.1) ∙ simp (ring, l)
-
-  -- A row that maps every place to zero.
-  pub comb_nothing : {A : Type 0} (xs : List F) (pts : List A) → comb o xs (map (λ _. zero) pts) ≡ zero
-  comb_nothing [] pts = refl
-  comb_nothing (x ∷ xs) [] = refl
-  comb_nothing (x ∷ xs) (t ∷ pts) = ap (λ w. x * zero + w) (comb_nothing xs pts) ∙ simp (ring, l)
-
   -- A row that is a multiple of one plus another.
   comb_split : {A : Type 0} (xs : List F) (c : F) (h k : A → F) (pts : List A) → comb o xs (map (λ t. c * h t + k t) pts) ≡ c * comb o xs (map h pts) + comb o xs (map k pts)
   comb_split [] c h k pts = sym (ap (λ w. w + zero) (Basics.mul_zero l c) ∙ Basics.add_zero l zero)
@@ -48,7 +36,7 @@ module _ {F : Type 0} {o : Ops F} (l : Laws o) where
 
   -- A row of series is summed term by term.
   comb_series : {A : Type 0} (xs : List F) (pts : List A) (u : A → ℕ → F) (g : List F) → comb o xs (map (λ t. series o (u t) g) pts) ≡ series o (λ i. comb o xs (map (λ t. u t i) pts)) g
-  comb_series xs pts u [] = comb_nothing xs pts
+  comb_series xs pts u [] = Mixing.comb_nothing l xs pts
   comb_series xs pts u (c ∷ g) =
       comb_split xs c (λ t. u t 0) (λ t. series o (λ i. u t (suc i)) g) pts
       ∙ ap (λ w. c * comb o xs (map (λ t. u t 0) pts) + w) (comb_series xs pts (λ t i. u t (suc i)) g)
@@ -69,7 +57,7 @@ module _ {F : Type 0} {o : Ops F} (l : Laws o) where
       cleared z r = simp (ring, l)
 
       alone : (z : F) (zs : List F) → comb o (z ∷ zs) (one ∷ map (λ _. zero) xs) ≡ z
-      alone z zs = ap (λ w. z * one + w) (comb_nothing zs xs) ∙ Basics.add_zero l (z * one) ∙ Basics.mul_one l z
+      alone z zs = ap (λ w. z * one + w) (Mixing.comb_nothing l zs xs) ∙ Basics.add_zero l (z * one) ∙ Basics.mul_one l z
 
       first : x ≡ y
       first = sym (alone x xs) ∙ h (one ∷ map (λ _. zero) xs) (ap suc (length-map xs (λ _. zero))) ∙ alone y ys

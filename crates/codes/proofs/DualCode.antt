@@ -111,13 +111,13 @@ turned_route m (n ∷ ls) (a ∷ ps) xs ds e s z =
     ∙ turned_route m ls ps (drop n xs) (drop n ds) (omega arith) (sym (length-drop n xs ∙ omega arith)) (length-drop n ds ∙ sym (length-drop n xs ∙ omega arith)))
 
 -- The dual blocks have the lengths of the blocks.
-dual_sizes : {F : Type 0} (o : Ops F) (blocks : List (Block F)) (al : List F) → length al ≡ roots.places blocks → map block_size (dual_blocks o blocks al) ≡ map block_size blocks
+dual_sizes : {F : Type 0} (o : Ops F) (blocks : List (Block F)) (al : List F) → length al ≡ roots.locator_count blocks → map block_size (dual_blocks o blocks al) ≡ map block_size blocks
 dual_sizes o [] al e = refl
 dual_sizes o (block a bs ∷ rest) al e =
     ap₂ (λ k ks. k ∷ ks) (length-take (length bs) al ∙ omega arith) (dual_sizes o rest (drop (length bs) al) (length-drop (length bs) al ∙ omega arith))
 
 -- As many points as places.
-points_length : {F : Type 0} (blocks : List (Block F)) → length (points blocks) ≡ roots.places blocks
+points_length : {F : Type 0} (blocks : List (Block F)) → length (points blocks) ≡ roots.locator_count blocks
 points_length [] = refl
 points_length (block a bs ∷ rest) = length-append (map (λ b. (a, b)) bs) (points rest) ∙ ap₂ ◌+◌ (length-map bs (λ b. (a, b))) (points_length rest)
 
@@ -144,7 +144,7 @@ module _ {m : Meaning} (l : Laws m) (c d : Code) (ds : List ℕ) where
     orthogonal = λ law w n.
         let L = loc.duality.lawful law.blocks (elems m ds) law.lawful (there law) in
         let count : length (pts m c) ≡ length (stops c.course) = length-map (stops c.course) (place m) in
-        let all : roots.places law.blocks ≡ length (stops c.course) = sym (points_length law.blocks) ∙ ap length law.grouped ∙ count in
+        let all : roots.locator_count law.blocks ≡ length (stops c.course) = sym (points_length law.blocks) ∙ ap length law.grouped ∙ count in
         subst (λ ts. Codeword (mirror (ops m)) ts d.dimension w ↔ ((v : List (Elem m)) → Codeword (ops m) (pts m c) c.dimension v → comb (ops m) v w ≡ (ops m).zero))
         (L.0 ∙ ap (λ ts. dual_points (ops m) ts (elems m ds)) law.grouped ∙ sym ep)
         (subst (λ ts. Codeword (mirror (ops m)) (points (dual_blocks (ops m) law.blocks (elems m ds))) d.dimension w ↔ ((v : List (Elem m)) → Codeword (ops m) ts c.dimension v → comb (ops m) v w ≡ (ops m).zero))

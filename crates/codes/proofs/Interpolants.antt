@@ -8,15 +8,16 @@ use Rattle.std.proofs.lemmas.List.{length-map, length-replicate}
 use Rattle.std.specs.List.{AllByRecursion}
 use Rattle.fields.specs.Field.{Ops, Laws, Zero, plus, scale}
 use Rattle.fields.specs.Basics
+use Rattle.fields.specs.Inverses
 use Rattle.fields.specs.Basics.{ring}
 use Rattle.fields.specs.Rows
+use Rattle.fields.specs.Lists.{all_follow}
 use Rattle.skew.specs.Values.{twisted, norm, step, eval, value}
 use Rattle.skew.specs.Roots.{at}
 use Rattle.skew.specs.Products.{coef}
 use Rattle.skew.specs.Interpolation.{values}
 use Rattle.skew.proofs.Evaluation
 use Rattle.skew.proofs.Values.{term_step}
-use Rattle.skew.proofs.Everywhere.{all_so}
 use Rattle.skew.proofs.Sums.{cons_path}
 use Rattle.skew.proofs.Multiplication
 use Rattle.skew.proofs.Multiplication.{times}
@@ -25,6 +26,7 @@ use Rattle.skew.proofs.Vanishing.{linear}
 use Rattle.skew.proofs.Sharpness
 use Rattle.skew.proofs.Sharpness.{Nil, Sharp}
 use Rattle.codes.specs.Duals.{Codeword, powers}
+use Rattle.ranks.proofs.Separating
 
 module _ {F : Type 0} {o : Ops F} (l : Laws o) where
   open o use {zero, one, add as ◌+◌, mul as ◌*◌, neg, inv}
@@ -65,7 +67,7 @@ module _ {F : Type 0} {o : Ops F} (l : Laws o) where
         Vanishing.highest l c p (length pts) s.1 s.2,
         (
           Multiplication.product_applies l t.0 (linear o c) p t.1 ∙ Sharpness.factor_root l t.0 (seen p t),
-          all_so (Nil o p) (Nil o (times o (linear o c) p)) kept pts s.3,
+          all_follow (Nil o p) (Nil o (times o (linear o c) p)) kept pts s.3,
         ),
       )
 
@@ -96,7 +98,7 @@ module _ {F : Type 0} {o : Ops F} (l : Laws o) where
       )
     where
       settled : (x y : F) → y ≢ zero → x + (v + neg x) * inv y * y ≡ v
-      settled x y n = ap (λ w. x + w) (Basics.mul_assoc l (v + neg x) (inv y) y ∙ ap (λ w. (v + neg x) * w) (Basics.inv_mul l y n)) ∙ simp (ring, l)
+      settled x y n = ap (λ w. x + w) (Basics.mul_assoc l (v + neg x) (inv y) y ∙ ap (λ w. (v + neg x) * w) (Inverses.inv_mul l y n)) ∙ simp (ring, l)
 
   -- The same, by the sum.
   pub interpolated : (pts : List (F × F)) (vs : List F) → Sharp o pts → length vs ≡ length pts → (f : List F) × (length f ≤ length pts) × (values o f pts ≡ vs)
@@ -106,18 +108,13 @@ module _ {F : Type 0} {o : Ops F} (l : Laws o) where
   pub values_tell : (pts : List (F × F)) (f g : List F) → Sharp o pts → length f ≤ length pts → length g ≤ length pts → values o f pts ≡ values o g pts → (i : ℕ) → coef o f i ≡ coef o g i
   values_tell pts f g h lf lg e = Sharpness.values_tell l pts f g h lf lg (by_steps (λ v. map (λ t. v t.0 f t.1) pts ≡ map (λ t. v t.0 g t.1) pts) e)
 
-  -- The value of a polynomial all of whose coefficients are zero.
-  pub eval_null : (a : F) (f : List F) (b : F) → AllByRecursion (Zero o) f → eval o a f b ≡ zero
-  eval_null a [] b h = refl
-  eval_null a (c ∷ f) b h = ap (λ w. w * b + eval o a f (step o a b)) h.0 ∙ ap (λ w. zero * b + w) (eval_null a f (step o a b) h.1) ∙ simp (ring, l)
-
   -- Zeros behind the coefficients change no value.
   eval_padded : (a : F) (f zs : List F) (b : F) → AllByRecursion (Zero o) zs → eval o a (f ++ zs) b ≡ eval o a f b
-  eval_padded a [] zs b h = eval_null a zs b h
+  eval_padded a [] zs b h = Separating.eval_null l a zs b h
   eval_padded a (c ∷ f) zs b h = ap (λ w. c * b + w) (eval_padded a f zs (step o a b) h)
 
   -- A row of zeros is zero.
-  zeros_null : (k : ℕ) → AllByRecursion (Zero o) (replicate k zero)
+  pub zeros_null : (k : ℕ) → AllByRecursion (Zero o) (replicate k zero)
   zeros_null ℕ.zero = tt
   zeros_null (suc k) = (refl, zeros_null k)
 

@@ -4,11 +4,15 @@ pub mod Reading
 pub mod Fitting
 pub mod Gathering
 pub mod Rightness
+pub mod Certainty
 pub mod Fitness
 pub mod Combs
 pub mod Interpolants
 pub mod Locators
 pub mod Mirrors
+pub mod StrictLocators
+pub mod DualLawfulness
+pub mod ScaledLocators
 pub mod DualCodes
 pub mod Checking
 pub mod Multipliers

@@ -15,13 +15,14 @@ use Rattle.std.proofs.Math.ListN.{get_or-eq_default}
 use Rattle.std.specs.List.{AllByRecursion}
 use Rattle.fields.specs.Field.{Ops, Laws, plus, scale, comb}
 use Rattle.fields.specs.Basics
+use Rattle.fields.specs.Inverses
 use Rattle.fields.specs.Basics.{ring}
 use Rattle.fields.specs.Rows
 use Rattle.skew.specs.Roots.{at, points}
 use Rattle.skew.specs.Products.{coef}
 use Rattle.skew.specs.Interpolation.{values}
 use Rattle.skew.proofs.Sums.{cons_path}
-use Rattle.skew.proofs.Multiplication
+use Rattle.skew.proofs.Coefficients
 use Rattle.skew.proofs.Sharpness
 use Rattle.skew.proofs.Sharpness.{Nil, Sharp}
 use Rattle.codes.specs.Duals.{powers, DualLocators, DualsThere, DualsAlone}
@@ -80,7 +81,7 @@ module _ {F : Type 0} {o : Ops F} (l : Laws o) where
         plus o (scale o v f.0) g.0,
         omega (arith, Rows.length_plus l (scale o v f.0) g.0, length-map f.0 (o.mul v), f.1, g.1),
         values_sum v f.0 g.0 pts ∙ ap (λ ys. plus o (scale o v ys) (values o g.0 pts)) (f.2 ∙ ap (unit o i) k) ∙ ap (plus o (scale o v (unit o i (length vs)))) g.2 ∙ plus_unit i v vs,
-        Multiplication.coef_plus l (scale o v f.0) g.0 m ∙ ap (λ x. x + coef o g.0 m) (Multiplication.coef_scale l v f.0 m ∙ ap (λ x. v * x) f.3 ∙ Basics.mul_comm l v w) ∙ ap (λ x. w * v + x) g.3,
+        Coefficients.coef_plus l (scale o v f.0) g.0 m ∙ ap (λ x. x + coef o g.0 m) (Coefficients.coef_scale l v f.0 m ∙ ap (λ x. v * x) f.3 ∙ Basics.mul_comm l v w) ∙ ap (λ x. w * v + x) g.3,
       )
 
   -- The coefficient m of a polynomial is the sum of multiplier × value.
@@ -103,7 +104,7 @@ module _ {F : Type 0} {o : Ops F} (l : Laws o) where
   first_multiplier (t ∷ pts) m (x ∷ xs) h len lw w =
       let s = Interpolants.annihilated l pts in
       let k : length pts ≡ m = omega arith in
-      Basics.unit_nonzero l x (at o s.0 t)
+      Inverses.unit_nonzero l x (at o s.0 t)
       (sym (by_multipliers (t ∷ pts) m (x ∷ xs) s.0 h lw w (omega (arith, s.1)) ∙ ap (λ y. x * at o s.0 t + y) (comb_nil xs s.0 pts s.3) ∙ Basics.add_zero l _)
       ∙ ap (coef o s.0) (sym k) ∙ s.2)
 
@@ -118,13 +119,13 @@ module _ {F : Type 0} {o : Ops F} (l : Laws o) where
   pub dual_of_multipliers : (pts : List (F × F)) (m : ℕ) (ws : List F) → Sharp o pts → length pts ≡ suc m → length ws ≡ length pts → Multipliers o pts m 0 ws → DualLocators o pts (scale o (inv (coef o ws 0)) ws)
   dual_of_multipliers pts m ws h len lw w = record {
     size = length-map ws (o.mul (inv (coef o ws 0))) ∙ lw;
-    first = Multiplication.coef_scale l (inv (coef o ws 0)) ws 0 ∙ Basics.inv_mul l (coef o ws 0) (first_multiplier pts m ws h len lw w);
+    first = Coefficients.coef_scale l (inv (coef o ws 0)) ws 0 ∙ Inverses.inv_mul l (coef o ws 0) (first_multiplier pts m ws h len lw w);
     null = λ i k. Rows.comb_scale l (inv (coef o ws 0)) ws (powers o i pts) ∙ ap (λ x. inv (coef o ws 0) * x) (multipliers_null pts m ws i h len lw w k) ∙ Basics.mul_zero l _;
   }
 
   -- There is a place, since the first dual locator is one.
   pub some_place : (pts : List (F × F)) (xs : List F) → DualLocators o pts xs → 1 ≤ length pts
-  some_place [] [] d = absurd (Basics.one_zero l (sym d.first))
+  some_place [] [] d = absurd (Inverses.one_zero l (sym d.first))
   some_place [] (x ∷ xs) d = absurd (omega (arith, d.size))
   some_place (t ∷ pts) xs d = omega arith
 
@@ -148,15 +149,15 @@ module _ {F : Type 0} {o : Ops F} (l : Laws o) where
 
     -- The factor is the inverse of the first multiplier.
     moment_inverse : (ws : List F) → length ws ≡ length pts → Multipliers o pts m 0 ws → moment * coef o ws 0 ≡ one
-    moment_inverse ws lw w = sym (Multiplication.coef_scale l moment ws 0) ∙ ap (λ ys. coef o ys 0) (sym (proportional ws lw w)) ∙ d.first
+    moment_inverse ws lw w = sym (Coefficients.coef_scale l moment ws 0) ∙ ap (λ ys. coef o ys 0) (sym (proportional ws lw w)) ∙ d.first
 
     -- It is not zero.
     pub moment_nonzero : moment ≢ zero
-    moment_nonzero = let ws = multipliers_there pts m h 0 (length pts) (omega arith) in Basics.unit_nonzero l _ _ (moment_inverse ws.0 ws.1 ws.2)
+    moment_nonzero = let ws = multipliers_there pts m h 0 (length pts) (omega arith) in Inverses.unit_nonzero l _ _ (moment_inverse ws.0 ws.1 ws.2)
 
     -- Dual locators are the multipliers, divided by the first.
     pub dual_is : (ws : List F) → length ws ≡ length pts → Multipliers o pts m 0 ws → xs ≡ scale o (inv (coef o ws 0)) ws
-    dual_is ws lw w = proportional ws lw w ∙ ap (λ c. scale o c ws) (sym (Basics.inv_unique l (coef o ws 0) moment (Basics.mul_comm l _ _ ∙ moment_inverse ws lw w)))
+    dual_is ws lw w = proportional ws lw w ∙ ap (λ c. scale o c ws) (sym (Inverses.inv_unique l (coef o ws 0) moment (Basics.mul_comm l _ _ ∙ moment_inverse ws lw w)))
 
   -- Sharp points have one row of dual locators.
   pub dual_unique : (pts : List (F × F)) (xs ys : List F) → Sharp o pts → DualLocators o pts xs → DualLocators o pts ys → xs ≡ ys

@@ -8,14 +8,16 @@ use Rattle.std.proofs.Common.{◌≡◌, ℕ, suc, ◌+◌ as ◌+ℕ◌, ◌-�
 use Rattle.std.proofs.Math.Path.{fun_ext}
 use Rattle.std.proofs.lemmas.List.{length-map}
 use Rattle.fields.specs.Field.{Ops, Laws, mirror, comb}
+use Rattle.fields.specs.Twists
 use Rattle.fields.specs.Basics
+use Rattle.fields.specs.Inverses
 use Rattle.fields.specs.Basics.{ring}
 use Rattle.skew.specs.Values.{twisted, norm, series}
-use Rattle.skew.specs.Roots.{Block, block, places, points}
+use Rattle.skew.specs.Roots.{Block, block, locator_count, points}
 use Rattle.skew.specs.Products.{coef}
 use Rattle.skew.specs.Interpolation.{values}
 use Rattle.skew.proofs.Values.{term_step}
-use Rattle.skew.proofs.Multiplication.{twisted_zero}
+use Rattle.skew.proofs.Coefficients.{twisted_zero}
 use Rattle.skew.proofs.Sharpness
 use Rattle.skew.proofs.Sharpness.{Sharp}
 use Rattle.codes.specs.Duals.{Codeword, powers, DualLocators, dual_points, dual_blocks, syndrome, SyndromesTell}
@@ -35,12 +37,12 @@ module _ {F : Type 0} {o : Ops F} (l : Laws o) where
   -- To untwist keeps sums.
   untwist_add : (x y : F) → untwist (x + y) ≡ untwist x + untwist y
   untwist_add x y =
-      Basics.twist_inj l _ _ (l.twist_untwist (x + y) ∙ sym (Basics.twist_add l (untwist x) (untwist y) ∙ ap (λ w. w + twist (untwist y)) (l.twist_untwist x) ∙ ap (λ w. x + w) (l.twist_untwist y)))
+      Twists.twist_inj l _ _ (l.twist_untwist (x + y) ∙ sym (Twists.twist_add l (untwist x) (untwist y) ∙ ap (λ w. w + twist (untwist y)) (l.twist_untwist x) ∙ ap (λ w. x + w) (l.twist_untwist y)))
 
   -- And products.
   pub untwist_mul : (x y : F) → untwist (x * y) ≡ untwist x * untwist y
   untwist_mul x y =
-      Basics.twist_inj l _ _ (l.twist_untwist (x * y) ∙ sym (Basics.twist_mul l (untwist x) (untwist y) ∙ ap (λ w. w * twist (untwist y)) (l.twist_untwist x) ∙ ap (λ w. x * w) (l.twist_untwist y)))
+      Twists.twist_inj l _ _ (l.twist_untwist (x * y) ∙ sym (Twists.twist_mul l (untwist x) (untwist y) ∙ ap (λ w. w * twist (untwist y)) (l.twist_untwist x) ∙ ap (λ w. x * w) (l.twist_untwist y)))
 
   -- So the mirror is a field with an automorphism.
   pub mirror_laws : Laws (mirror o)
@@ -74,7 +76,7 @@ module _ {F : Type 0} {o : Ops F} (l : Laws o) where
   -- And nothing else.
   back_nonzero : (j : ℕ) (x : F) → x ≢ zero → twisted (mirror o) j x ≢ zero
   back_nonzero ℕ.zero x n = n
-  back_nonzero (suc j) x n = Basics.twist_nonzero mirror_laws _ (back_nonzero j x n)
+  back_nonzero (suc j) x n = Twists.twist_nonzero mirror_laws _ (back_nonzero j x n)
 
   -- A term of the dual times a term of the code.
   exchange : (a x b : F) (j i : ℕ) → power (mirror o) (untwist a) j x * power o a i b ≡ twisted (mirror o) j (x * power o a (i +ℕ j) b)
@@ -105,7 +107,7 @@ module _ {F : Type 0} {o : Ops F} (l : Laws o) where
   duals_block a (b ∷ bs) (x ∷ alpha) k = ap (λ ws. (untwist a, x) ∷ ws) (duals_block a bs alpha (omega arith))
 
   -- The dual blocks have the dual points.
-  pub points_dual : (blocks : List (Block F)) (alpha : List F) → length alpha ≡ places blocks → points (dual_blocks o blocks alpha) ≡ dual_points o (points blocks) alpha
+  pub points_dual : (blocks : List (Block F)) (alpha : List F) → length alpha ≡ locator_count blocks → points (dual_blocks o blocks alpha) ≡ dual_points o (points blocks) alpha
   points_dual [] alpha len = refl
   points_dual (block a bs ∷ blocks) alpha len =
       ap (λ ws. map (λ x. (untwist a, x)) (take (length bs) alpha) ++ ws) (points_dual blocks (drop (length bs) alpha) (omega (arith, length-drop (length bs) alpha)))
@@ -157,7 +159,7 @@ module _ {F : Type 0} {o : Ops F} (l : Laws o) where
 
           top : coef o r.0 c ≡ zero
           top =
-              Basics.left_zero l (coef o r.0 c) _ nonzero
+              Inverses.left_zero l (coef o r.0 c) _ nonzero
               (sym (Combs.series_top l (λ i. twisted (mirror o) j (comb o alpha (powers o (i +ℕ j) pts))) r.0 c (omega (arith, r.1))
               (λ i k. ap (twisted (mirror o) j) (d.null (i +ℕ j) (omega arith)) ∙ back_zero j))
               ∙ sym (syndrome_values pts alpha r.0 j d.size) ∙ null)

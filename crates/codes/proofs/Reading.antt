@@ -15,7 +15,7 @@ use Rattle.fields.proofs.Carrier
 use Rattle.skew.specs.Products.{coef}
 use Rattle.skew.specs.Polynomials.{Codes}
 use Rattle.skew.specs.Few.{Resized}
-use Rattle.skew.specs.Interpolation.{values, Unlawful, Interpolated}
+use Rattle.skew.specs.Interpolation.{values, Stuck, Interpolated}
 use Rattle.skew.proofs.Values.{eval_value}
 use Rattle.skew.proofs.Evaluation
 use Rattle.skew.proofs.Sums
@@ -77,10 +77,10 @@ module _ {m : Meaning} (l : Laws m) where
 
   -- Where no polynomial goes through the points, the word is too long or short, or the points are not lawful.
   pub no_values : (c : Code) (w : List ℕ) → length (stops c.course) ≤ 24
-      → (24 < length (stops c.course)) ⊎ ((length w ≢ length (stops c.course)) ⊎ Unlawful m (stops c.course)) → Unread m c w
+      → (24 < length (stops c.course)) ⊎ ((length w ≢ length (stops c.course)) ⊎ Stuck m (stops c.course) w) → Unread m c w
   no_values c w few (inl h) = absurd (omega arith)
   no_values c w few (inr (inl n)) = inl n
-  no_values c w few (inr (inr u)) = inr (λ law word. u law.blocks law.grouped law.lawful)
+  no_values c w few (inr (inr u)) = inr (λ law word. u.unlawful law.blocks law.grouped law.lawful)
 
   module _ (c : Code) (w f : List ℕ) (has : Interpolated m (stops c.course) w f) where
     -- Where a message of w exists its coefficients are those of the interpolant.
@@ -113,7 +113,7 @@ module _ {m : Meaning} (l : Laws m) where
       pub read : Read m c w r
       read = record {
         proper = codes_by_place r (λ i h. ap (clip m) (cut.same i h) ∙ there i ∙ sym (cut.same i h));
-        given = λ most. (sized most, values_same (Carrier.ops_laws l) (elems m r) (elems m f) (same_coefs most) (pts m c) ∙ has.has);
+        given = (sized c.most, values_same (Carrier.ops_laws l) (elems m r) (elems m f) (same_coefs c.most) (pts m c) ∙ has.has);
         only = λ law g e. Sums.same_coefs (Carrier.ops_laws l) g (elems m r) (e.0 ∙ sym (sized law.most)) (λ i. only_coefs law g e i ∙ sym (coef_elem f i) ∙ sym (same_coefs law.most i));
       }
         where

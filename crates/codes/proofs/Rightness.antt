@@ -11,7 +11,7 @@ use Rattle.sheets.specs.Sheets.{Text}
 use Rattle.codes.specs.Fitness.{Outside, AllNot, ApartUntil, Gathered, Unfit, no_parameter, no_locator, related, dependent}
 
 -- The block behind some others.
-block_behind : (front : List ℕ) (n : ℕ) (rest xs b : List ℕ) → get_or (cut (front ++ n ∷ rest) xs) (length front) b ≡ take n (drop (total front) xs)
+pub block_behind : (front : List ℕ) (n : ℕ) (rest xs b : List ℕ) → get_or (cut (front ++ n ∷ rest) xs) (length front) b ≡ take n (drop (total front) xs)
 block_behind [] n rest xs b = refl
 block_behind (k ∷ front) n rest xs b = block_behind front n rest (drop k xs) b ∙ ap (take n) (drop-drop (total front) k xs)
 

@@ -43,7 +43,7 @@ Codeword m c w = (f : List (Elem m)) × Message m c w f
 
 pub record Read (m : Meaning) (c : Code) (w f : List ℕ) : Type 0 where
   pub proper : Codes m f
-  pub given : c.dimension ≤ length (stops c.course) → Message m c w (elems m f)
+  pub given : Message m c w (elems m f)
   pub only : LawfulCode m c → (g : List (Elem m)) → Message m c w g → g ≡ elems m f
 
 abbrev pub Unread : Meaning → Code → List ℕ → Type 0

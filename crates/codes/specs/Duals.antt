@@ -13,7 +13,7 @@ use Rattle.std.specs.Prelude.{◌≡◌, ℕ, ◌+◌, ◌<◌, ◌≤◌, ◌�
 use Rattle.fields.specs.Field.{Ops, mirror, comb}
 use Rattle.skew.specs.Values.{twisted, norm}
 use Rattle.skew.specs.Products.{coef}
-use Rattle.skew.specs.Roots.{Block, block, places, points, Lawful}
+use Rattle.skew.specs.Roots.{Block, block, locator_count, points, Lawful}
 use Rattle.skew.specs.Interpolation.{values}
 
 module _ {F : Type 0} (o : Ops F) where
@@ -43,7 +43,7 @@ module _ {F : Type 0} (o : Ops F) where
 
   -- Lawful points, one at least, have dual locators.
   abbrev pub DualsThere : Type 0
-  DualsThere = (blocks : List (Block F)) → Lawful o blocks → 1 ≤ places blocks → (alpha : List F) × DualLocators o (points blocks) alpha
+  DualsThere = (blocks : List (Block F)) → Lawful o blocks → 1 ≤ locator_count blocks → (alpha : List F) × DualLocators o (points blocks) alpha
 
   -- They have no others.
   abbrev pub DualsAlone : Type 0
@@ -56,7 +56,7 @@ module _ {F : Type 0} (o : Ops F) where
 
   -- The codewords of the dual code, of dimension j = n - k, are the words whose sum of products with each codeword is zero.
   abbrev pub Orthogonal : Type 0
-  Orthogonal = (blocks : List (Block F)) (alpha : List F) (k j : ℕ) (c : List F) → Lawful o blocks → DualLocators o (points blocks) alpha → j + k ≡ places blocks → length c ≡ places blocks
+  Orthogonal = (blocks : List (Block F)) (alpha : List F) (k j : ℕ) (c : List F) → Lawful o blocks → DualLocators o (points blocks) alpha → j + k ≡ locator_count blocks → length c ≡ locator_count blocks
       → Codeword (mirror o) (points (dual_blocks o blocks alpha)) j c ↔ ((w : List F) → Codeword o (points blocks) k w → comb o w c ≡ o.zero)
 
   -- The dual of the dual code has the codewords of the first.
@@ -66,8 +66,8 @@ module _ {F : Type 0} (o : Ops F) where
 
   -- The first n - k syndromes of a word of n symbols are all zero exactly where it is a codeword.
   abbrev pub SyndromesTell : Type 0
-  SyndromesTell = (blocks : List (Block F)) (alpha : List F) (k : ℕ) (w : List F) → Lawful o blocks → DualLocators o (points blocks) alpha → k ≤ places blocks → length w ≡ places blocks
-      → ((j : ℕ) → j + k < places blocks → syndrome (points blocks) alpha w j ≡ o.zero) ↔ Codeword o (points blocks) k w
+  SyndromesTell = (blocks : List (Block F)) (alpha : List F) (k : ℕ) (w : List F) → Lawful o blocks → DualLocators o (points blocks) alpha → k ≤ locator_count blocks → length w ≡ locator_count blocks
+      → ((j : ℕ) → j + k < locator_count blocks → syndrome (points blocks) alpha w j ≡ o.zero) ↔ Codeword o (points blocks) k w
 
 pub record Duality {F : Type 0} (o : Ops F) : Type 0 where
   pub there : DualsThere o

@@ -13,6 +13,7 @@
 --   Breaks m ls xs base e   the first block with dependent locators, and in it the first locator that depends on earlier ones
 --   Unfit m t e             the code of the sheet is refused
 --   Made m t c              c is the code of the sheet, and lawful; and the sheet has none of the faults
+--   OneFault m              no sheet has two of the faults
 use Rattle.std.specs.Prelude.{◌≡◌, ℕ, ◌+◌, ◌<◌, ◌≤◌, ◌⊎◌, List, [], ◌∷◌, ◌++◌, map, length, take, drop, slice_index, slice_index_or}
 use Rattle.fields.specs.Meaning.{Meaning}
 use Rattle.fields.specs.Elements.{Elem, elem, elems, ops}
@@ -96,3 +97,7 @@ pub record Made (m : Meaning) (t : Text) (c : Code) : Type 0 where
   pub points : stops c.course ≡ route t.blocks t.parameters t.locators
   pub lawful : LawfulCode m c
   pub fit : (e : Fault) → ¬ Unfit m t e
+
+-- A sheet has at most one fault of its code.
+abbrev pub OneFault : Meaning → Type 0
+OneFault m = (t : Text) (e f : Fault) → Unfit m t e → Unfit m t f → e ≡ f

@@ -15,7 +15,7 @@ pub use dualizing::{dual, dual_sheet};
 pub use duals::{dual_locators, duals_stand};
 pub use encoding::{encode, message};
 pub use lists::{Course, ROOM, SheetBytes, Symbols};
-pub use making::set_up;
+pub use making::{faults_stand, set_up};
 pub use shape::Code;
 pub use syndrome::{product_sum, syndromes};
 pub use writing::{byte, write_sheet};

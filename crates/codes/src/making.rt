@@ -6,7 +6,7 @@ ghost use Rattle.codes.specs.Holdings.{held, stops};
 ghost use Rattle.ranks.specs.Ranks.{total};
 ghost use Rattle.sheets.specs.Sheets.{Whole, Spells, Refused, Text};
 ghost use Rattle.sheets.specs.Readings.{text_of, Laid};
-ghost use Rattle.codes.specs.Fitness.{at_code, Outside, First, AllNot, Related, ApartUntil, pointed, Gathered, Breaks, Unfit, Made};
+ghost use Rattle.codes.specs.Fitness.{at_code, Outside, First, AllNot, Related, ApartUntil, pointed, Gathered, Breaks, Unfit, Made, OneFault};
 
 use super::lists::{Course, Symbols};
 use super::shape::Code;
@@ -134,4 +134,12 @@ pub fn set_up<K: Kind>(kind: &K, bytes: &[u8]) -> Result<Code, Fault>
     let number = kind.number();
     let sheet = read_sheet(number, bytes)?;
     make(kind, sheet)
+}
+
+// Over every kind, a sheet that reads well has at most one fault of its code; so `set_up` has one answer, with `Made`, which says that
+// a sheet of which a code is made has none. A theorem, which this contract asks for.
+pub fn faults_stand<K: Kind>(kind: &K) -> u8
+    ensures { OneFault (K.meaning kind.now) }
+{
+    0
 }

@@ -10,7 +10,7 @@ use skew::Point;
 
 // The parameter of the point at a place, and 0 past the end.
 fn parameter_at(points: &[Point], at: usize) -> u8
-    ensures { at < length points.now → result ≡ (get_or points.now at (record { parameter = 0; locator = 0 })).parameter }
+    ensures { result ≡ (get_or points.now at (record { parameter = 0; locator = 0 })).parameter }
 {
     points.get(at).map_or(0, |p| p.parameter)
 }
@@ -44,9 +44,10 @@ fn locators_of(code: &Code) -> Symbols
     out
 }
 
-// A number that is at most 255, as a byte.
+// A number that is at most 255, as a byte; 255 for a larger one.
 pub fn byte(n: usize) -> u8
-    ensures { n ≤ 255 → result ≡ n }
+    ensures value { n ≤ 255 → result ≡ n }
+    ensures past { 255 < n → result ≡ 255 }
 {
     u8::try_from(n).unwrap_or(255)
 }

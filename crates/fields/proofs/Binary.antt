@@ -7,7 +7,8 @@ use Rattle.std.specs.Int.Bits.{bit_xor, xor_step}
 use Rattle.fields.specs.Residues.{coefficients, code, plus, scale, Modulus, degree, polynomial, sum, opposite, raised}
 use Rattle.fields.specs.Shipped.{modulus256}
 use Rattle.fields.specs.Range.{at}
-use Rattle.fields.specs.Rings.{scale_zero, scale_one, code_zeros, code_coefficients, polynomial_reduced}
+use Rattle.fields.specs.Coefficients.{scale_zero, scale_one, code_zeros, code_coefficients}
+use Rattle.fields.specs.Rings.{polynomial_reduced}
 use Rattle.fields.proofs.Rounds.{scaled, rounds, scaled_code, rounds_code, rounds_more}
 
 -- The sum of two bits modulo 2 says whether they differ.

@@ -7,7 +7,8 @@ use Rattle.fields.specs.Residues.{sum, opposite, product, power, trace, traces}
 use Rattle.fields.specs.Shipped.{modulus256, gf256}
 use Rattle.fields.specs.Additive.{spread}
 use Rattle.fields.specs.declared.bits.TheConstants.{FOURTH, SIXTY_FOURTH, DIGIT_1, DIGIT_2, DIGIT_3, DIGIT_4}
-use Rattle.fields.specs.Rings.{ring256, power_code, trace_code}
+use Rattle.fields.specs.Rings.{ring256}
+use Rattle.fields.specs.CodePowers.{power_code, trace_code}
 use Rattle.fields.proofs.Binary.{sum_xor, opposite_same}
 use Rattle.fields.specs.ResidueKinds.{Additive, powers_additive}
 use Rattle.fields.proofs.BitLoops.{masked, doubled, times_starts, times_goes_on, times_ends}

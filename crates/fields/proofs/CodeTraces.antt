@@ -1,7 +1,8 @@
 -- Traces of codes keep sums where the power that they repeat does.
 use Rattle.std.proofs.Common.{◌≡◌, ℕ, suc, ◌<◌, sym, ap, ◌∙◌, arith}
 use Rattle.fields.specs.Residues.{Modulus, sum, product, power, trace}
-use Rattle.fields.specs.Rings.{Ring, power_code, trace_code}
+use Rattle.fields.specs.Rings.{Ring}
+use Rattle.fields.specs.CodePowers.{power_code, trace_code}
 
 module _ (q : Modulus) (size : ℕ) (r : Ring q size) where
   zero_code : 0 < size

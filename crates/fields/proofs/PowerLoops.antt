@@ -4,7 +4,8 @@ use Rattle.std.proofs.Math.Nat.{one-le-pow}
 use Rattle.std.proofs.lemmas.Nat.{pow_pos}
 use Rattle.fields.specs.Residues.{Modulus, degree, product, power}
 use Rattle.fields.specs.Shipped.{modulus256, modulus81}
-use Rattle.fields.specs.Rings.{Ring, ring256, ring81, power_add, power_code}
+use Rattle.fields.specs.Rings.{Ring, ring256, ring81}
+use Rattle.fields.specs.CodePowers.{power_add, power_code}
 use Rattle.fields.specs.ResidueKinds.{power_mul, power_once, square_is}
 
 -- After i rounds x is the power p^i of a, and the other the power p^(i + 1) - 2.

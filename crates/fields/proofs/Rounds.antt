@@ -4,7 +4,10 @@
 --   rounds q k x y   x times the polynomial of y's k lowest digits: what k more rounds add
 use Rattle.std.proofs.Common.{◌≡◌, ℕ, suc, ◌/◌, ◌%◌, ◌^◌, ◌<◌, sym, refl, ap, ◌∙◌, ap₂}
 use Rattle.fields.specs.Residues.{coefficients, code, plus, scale, Modulus, degree, raise, times, polynomial, sum, raised, product}
-use Rattle.fields.specs.Rings.{code_below, coefficients_code, code_zeros, polynomial_reduced, scale_proper, raise_reduced, times_reduced, times_raise_left}
+use Rattle.fields.specs.Coefficients.{code_below, coefficients_code, code_zeros}
+use Rattle.fields.specs.Rings.{polynomial_reduced}
+use Rattle.fields.specs.ProperLists.{scale_proper}
+use Rattle.fields.specs.PolynomialProducts.{raise_reduced, times_reduced, times_raise_left}
 
 unfoldable pub scaled : Modulus → ℕ → ℕ → ℕ
 scaled q c a = code q.base (scale q.base c (polynomial q a))

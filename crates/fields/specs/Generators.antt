@@ -9,7 +9,8 @@ use Rattle.std.proofs.Math.Path.{refl, ap}
 use Rattle.std.proofs.Common.{sym, ap₂, ◌∙◌, subst, mul_comm, mod-lt, div-add-mod', arith, eqb→eq, ltb→lt}
 use Rattle.fields.specs.Residues.{Modulus, product, power}
 use Rattle.fields.specs.Range.{both, both_left, both_right, below, at, unless0, from0}
-use Rattle.fields.specs.Rings.{Ring, power_code, power_add}
+use Rattle.fields.specs.Rings.{Ring}
+use Rattle.fields.specs.CodePowers.{power_code, power_add}
 use Rattle.fields.specs.ResidueKinds.{size, Ordered, power_next, power_mul}
 
 abbrev pub chain : Modulus → ℕ → ℕ → List ℕ → Bool

@@ -10,11 +10,17 @@ pub mod Additive
 pub mod Ternary
 pub mod ShippedLaws
 pub mod Range
+pub mod ProperLists
+pub mod Coefficients
+pub mod PolynomialProducts
 pub mod Rings
+pub mod CodePowers
 pub mod DigitTests
 pub mod ResidueKinds
 pub mod Frobenius
 pub mod Basics
+pub mod Inverses
+pub mod Twists
 pub mod TraceDigits
 pub mod Traces
 pub mod Rows

@@ -9,7 +9,8 @@ use Rattle.fields.specs.Meaning.{Meaning, Laws, Fixed, combined}
 use Rattle.fields.specs.Residues.{Modulus, degree, sum, product, power, residues}
 use Rattle.fields.specs.Elements.{Elem, elem}
 use Rattle.fields.specs.Carried.{carried}
-use Rattle.fields.specs.Rings.{Ring, power_code, power_add, power_product}
+use Rattle.fields.specs.Rings.{Ring}
+use Rattle.fields.specs.CodePowers.{power_code, power_add, power_product}
 use Rattle.fields.specs.DigitTests.{DigitLaws}
 use Rattle.fields.specs.Carried
 use Rattle.fields.specs.Frobenius

@@ -5,6 +5,7 @@ use Rattle.std.specs.List.{AllByRecursion}
 use Rattle.fields.specs.Lists.{all_map}
 use Rattle.fields.specs.Field.{Ops, Laws, Fixed, plus, comb}
 use Rattle.fields.specs.Basics
+use Rattle.fields.specs.Twists
 use Rattle.fields.specs.Basics.{ring}
 
 module _ {F : Type 0} {o : Ops F} (l : Laws o) where
@@ -32,7 +33,7 @@ module _ {F : Type 0} {o : Ops F} (l : Laws o) where
   pub fixed_plus : (cs ds : List F) → AllByRecursion (Fixed o) cs → AllByRecursion (Fixed o) ds → AllByRecursion (Fixed o) (plus o cs ds)
   fixed_plus [] ds h k = k
   fixed_plus (c ∷ cs) [] h k = h
-  fixed_plus (c ∷ cs) (d ∷ ds) h k = (Basics.fixed_add l c d h.0 k.0, fixed_plus cs ds h.1 k.1)
+  fixed_plus (c ∷ cs) (d ∷ ds) h k = (Twists.fixed_add l c d h.0 k.0, fixed_plus cs ds h.1 k.1)
 
   pub fixed_scaled : (d : F) (cs : List F) → Fixed o d → AllByRecursion (Fixed o) cs → AllByRecursion (Fixed o) (map (o.mul d) cs)
-  fixed_scaled d cs p h = all_map (Fixed o) (Fixed o) (o.mul d) (λ c q. Basics.fixed_mul l d c p q) cs h
+  fixed_scaled d cs p h = all_map (Fixed o) (Fixed o) (o.mul d) (λ c q. Twists.fixed_mul l d c p q) cs h

@@ -6,8 +6,7 @@
 --   m, l, τ                      the field alone, its laws, and the t-th power on its elements
 --   Kept d                       d is a code that the t-th power leaves: a fixed one, in a kind whose twist it is
 use Rattle.std.specs.Prelude.{◌≡◌, ℕ, zero, suc, ◌^◌, ◌<◌, ◌≤◌, List, [], ◌∷◌, map, length, replicate, refl}
-use Rattle.std.proofs.Common.{sym, ap₂, ◌∙◌, subst, pow-suc, mul_comm}
-use Rattle.std.proofs.Math.Path.{ap}
+use Rattle.std.proofs.Common.{sym, ap, ap₂, ◌∙◌, subst, pow-suc, mul_comm}
 use Rattle.std.proofs.Math.Nat.{pow-zero}
 use Rattle.std.proofs.lemmas.List.{length-map}
 use Rattle.std.specs.List.{AllByRecursion}
@@ -17,10 +16,11 @@ use Rattle.fields.specs.Meaning.{Meaning, Laws, Code, combination}
 use Rattle.fields.specs.Residues.{Modulus, sum, product, power, trace, traces, residues}
 use Rattle.fields.specs.Elements.{Elem, elem, elems, codes}
 use Rattle.fields.specs.Carried.{carried}
-use Rattle.fields.specs.Rings.{Ring, power_code, power_product, trace_code}
+use Rattle.fields.specs.Rings.{Ring}
+use Rattle.fields.specs.CodePowers.{power_code, power_product, trace_code}
 use Rattle.fields.specs.DigitTests.{DigitLaws}
 use Rattle.fields.specs.ResidueKinds.{size, Ordered, Additive, power_mul, power_whole, power_once, plain, plain_laws}
-use Rattle.fields.specs.Traces.{again, tr, Left, identity, Kills}
+use Rattle.fields.specs.Traces.{again, tr, Left, identity, identity_map, Kills}
 use Rattle.fields.specs.Traces
 use Rattle.fields.specs.Carried
 
@@ -30,19 +30,6 @@ trace_table q t k cs bs = map (λ c. map (λ b. trace q t k (product q c b)) bs)
 abbrev pub combinations : Modulus → ℕ → List ℕ → ℕ → List ℕ → List ℕ
 combinations q t bs zero cs = []
 combinations q t bs (suc k) cs = combination (sum q) (product q) cs bs ∷ combinations q t bs k (map (power q t) cs)
-
--- The unit rows, entry by entry under a map.
-identity_map : {A B : Type 0} (f : A → B) (z u : A) (n : ℕ) → map (map f) (identity z u n) ≡ identity (f z) (f u) n
-identity_map f z u zero = refl
-identity_map {A} {B} f z u (suc n) = ap₂ (λ x xs. x ∷ xs) (ap (λ xs. f u ∷ xs) (zeros n)) (past (identity z u n) ∙ ap (map (λ row. f z ∷ row)) (identity_map f z u n))
-  where
-    zeros : (n : ℕ) → map f (replicate n z) ≡ replicate n (f z)
-    zeros zero = refl
-    zeros (suc n) = ap (λ xs. f z ∷ xs) (zeros n)
-
-    past : (rows : List (List A)) → map (map f) (map (λ row. z ∷ row) rows) ≡ map (λ row. f z ∷ row) (map (map f) rows)
-    past [] = refl
-    past (row ∷ rows) = ap (λ xs. (f z ∷ map f row) ∷ xs) (past rows)
 
 module _ (q : Modulus) (r : Ring q (size q)) (order : Ordered q r) (small : size q ≤ 256) (t : ℕ) (additive : Additive q r order small t) where
   abbrev m : Meaning

@@ -28,6 +28,19 @@ abbrev pub identity : {A : Type 0} → A → A → ℕ → List (List A)
 identity z u ℕ.zero = []
 identity z u (suc n) = (u ∷ replicate n z) ∷ map (λ row. z ∷ row) (identity z u n)
 
+-- The unit rows, entry by entry under a map.
+pub identity_map : {A B : Type 0} (f : A → B) (z u : A) (n : ℕ) → map (map f) (identity z u n) ≡ identity (f z) (f u) n
+identity_map f z u ℕ.zero = refl
+identity_map {A} {B} f z u (suc n) = ap₂ (λ x xs. x ∷ xs) (ap (λ xs. f u ∷ xs) (zeros n)) (past (identity z u n) ∙ ap (map (λ row. f z ∷ row)) (identity_map f z u n))
+  where
+    zeros : (n : ℕ) → map f (replicate n z) ≡ replicate n (f z)
+    zeros ℕ.zero = refl
+    zeros (suc n) = ap (λ xs. f z ∷ xs) (zeros n)
+
+    past : (rows : List (List A)) → map (map f) (map (λ row. z ∷ row) rows) ≡ map (λ row. f z ∷ row) (map (map f) rows)
+    past [] = refl
+    past (row ∷ rows) = ap (λ xs. (f z ∷ map f row) ∷ xs) (past rows)
+
 abbrev pub Kills : {F : Type 0} → Ops F → (F → F) → List F → ℕ → List F → Type 0
 Kills o τ bs ℕ.zero cs = Unit {0}
 Kills o τ bs (suc k) cs = (comb o cs bs ≡ o.zero) × Kills o τ bs k (map τ cs)

@@ -15,13 +15,20 @@ use super::{Kind, clipped};
 #[derive(Clone, Copy, Debug, Default, PartialEq, Eq)]
 pub struct Gf81;
 
-// The coefficients of z^4 + z + 2 below the top one.
-const LOW: Trits = Trits {
-    c0: 2,
-    c1: 1,
-    c2: 0,
-    c3: 0,
-};
+// The cube of each element, and the element that has it as its cube.
+const CUBES: [u8; 81] = [
+    0, 1, 2, 27, 28, 29, 54, 55, 56, 63, 64, 65, 9, 10, 11, 36, 37, 38, 45, 46, 47, 72, 73, 74, 18,
+    19, 20, 39, 40, 41, 66, 67, 68, 12, 13, 14, 21, 22, 23, 48, 49, 50, 75, 76, 77, 57, 58, 59, 3,
+    4, 5, 30, 31, 32, 78, 79, 80, 24, 25, 26, 51, 52, 53, 33, 34, 35, 60, 61, 62, 6, 7, 8, 15, 16,
+    17, 42, 43, 44, 69, 70, 71,
+];
+
+const CUBE_ROOTS: [u8; 81] = [
+    0, 1, 2, 48, 49, 50, 69, 70, 71, 12, 13, 14, 33, 34, 35, 72, 73, 74, 24, 25, 26, 36, 37, 38,
+    57, 58, 59, 3, 4, 5, 51, 52, 53, 63, 64, 65, 15, 16, 17, 27, 28, 29, 75, 76, 77, 18, 19, 20,
+    39, 40, 41, 60, 61, 62, 6, 7, 8, 45, 46, 47, 66, 67, 68, 9, 10, 11, 30, 31, 32, 78, 79, 80, 21,
+    22, 23, 42, 43, 44, 54, 55, 56,
+];
 
 // The coefficients of a, and the code that has them.
 fn split(a: u8) -> Trits
@@ -67,28 +74,19 @@ fn scale(c: u8, f: Trits) -> Trits
     }
 }
 
-// z times f: one place up, less z^4 + z + 2 as often as z^4 stands there.
-fn raise(f: Trits) -> Trits
-    ensures { trits result ≡ residues.raise modulus81 (trits f) }
-{
-    let moved = Trits {
-        c0: 0,
-        c1: f.c0,
-        c2: f.c1,
-        c3: f.c2,
-    };
-    plus(moved, scale(f.c3 * 2, LOW))
-}
-
-// f (g0 + z (g1 + z (g2 + z g3))), from the inside.
+// f times g. Before it is reduced there are z^4, z^5 and z^6 as well; z^4 is 2 z + 1.
 fn times(f: Trits, g: Trits) -> Trits
     ensures { trits result ≡ residues.times modulus81 (trits f) (trits g) }
 {
-    let mut sum = scale(g.c3, f);
-    for c in [g.c2, g.c1, g.c0] {
-        sum = plus(scale(c, f), raise(sum));
+    let z4 = f.c1 * g.c3 + f.c2 * g.c2 + f.c3 * g.c1;
+    let z5 = f.c2 * g.c3 + f.c3 * g.c2;
+    let z6 = f.c3 * g.c3;
+    Trits {
+        c0: (f.c0 * g.c0 + z4) % 3,
+        c1: (f.c0 * g.c1 + f.c1 * g.c0 + 2 * z4 + z5) % 3,
+        c2: (f.c0 * g.c2 + f.c1 * g.c1 + f.c2 * g.c0 + 2 * z5 + z6) % 3,
+        c3: (f.c0 * g.c3 + f.c1 * g.c2 + f.c2 * g.c1 + f.c3 * g.c0 + 2 * z6) % 3,
     }
-    sum
 }
 
 fn multiplied(a: u8, b: u8) -> u8
@@ -102,7 +100,15 @@ fn cube(a: u8) -> u8
     ensures value { result ≡ power modulus81 3 a }
     ensures below { result < 81 }
 {
-    multiplied(a, multiplied(a, a))
+    CUBES[a as usize]
+}
+
+// The power 27 of a, whose cube is the power 81: a again.
+fn cube_root(a: u8) -> u8
+    requires { a < 81 }
+    ensures { result ≡ power modulus81 27 a }
+{
+    CUBE_ROOTS[a as usize]
 }
 
 // The power 79 of a: a times the squares of its powers 3, 9 and 27.
@@ -154,7 +160,7 @@ impl Kind for Gf81 {
     }
 
     fn untwist(&self, a: u8) -> u8 {
-        cube(cube(cube(clipped::<81>(a))))
+        cube_root(clipped::<81>(a))
     }
 
     fn width(&self) -> usize {

@@ -104,11 +104,16 @@ module _ {m : Meaning} where
         (inr (always refl, row_refused m c w gs t b x e judged))
 
     -- Decode is refused where the tally is not full and no codeword is in reach.
-    pub unreached_refused : t.words < most_words → ((v : List (Elem m)) → ¬ InReach m c gs (elems m w) v)
-        → Only (at m (held c w gs) t) decode (Err (at_station OutOfReach 0)) (at m (held c w gs) t)
-    unreached_refused room none =
-        only_refused (at m (held c w gs) t) decode (at_station OutOfReach 0) (single, (single, (single, tt)))
-        (inr (always refl, inr ((λ e full. omega (arith, full.0, room)), inl (none, refl))))
+    unreached_refused : t.words < most_words → ((v : List (Elem m)) → ¬ InReach m c gs (elems m w) v) → Refuses (rows_of m (at m (held c w gs) t) decode) (at_station OutOfReach 0)
+    unreached_refused room none = inr (always refl, inr ((λ e full. omega (arith, full.0, room)), inl (none, refl)))
+
+    -- So it is, and answered nothing else.
+    pub refused_alone : t.words < most_words → ((v : List (Elem m)) → ¬ InReach m c gs (elems m w) v)
+        → Refuses (rows_of m (at m (held c w gs) t) decode) (at_station OutOfReach 0)
+        × ((a : Result Reply Fault) (q : Position m) → Answered m (at m (held c w gs) t) decode a q → a ≡ Err (at_station OutOfReach 0))
+    refused_alone room none =
+        let refuses = unreached_refused room none in
+        (refuses, λ a q h. (only_refused (at m (held c w gs) t) decode (at_station OutOfReach 0) (single, (single, (single, tt))) refuses a q h).0)
 
   -- A first call that is only answered so, and the calls after it.
   pub after : {p q r : Position m} {c : Command} {cs : List Command} {a : Result Reply Fault} {rs : List (Result Reply Fault)} → Only p c a q → History m p (c ∷ cs) rs r

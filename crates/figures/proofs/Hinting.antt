@@ -18,8 +18,8 @@ use Rattle.station.specs.Calls.{row, column, Reply, done, at_station}
 use Rattle.station.specs.Positions.{held, Tallied, Position, at}
 use Rattle.station.specs.Histories.{History}
 use Rattle.figures.specs.Figures.{row_hint_b, both_hints_b}
-use Rattle.figures.proofs.Reaching.{spanned_by_none}
-use Rattle.figures.proofs.Reached.{laws_16, eight, five_from_eight, untold_b, sheet_b}
+use Rattle.recovery.proofs.Unhinted.{spanned_by_none}
+use Rattle.figures.proofs.Reached.{laws_16, eight, five_from_eight, untold_b, said_b}
 use Rattle.figures.proofs.Answering.{row_taken, column_taken, row_turned_down, after, at_end}
 
 -- Without hints the row hint 8 in block 1 is taken.
@@ -53,7 +53,7 @@ pub one_spent : RowJudged gf16 (2 ∷ 2 ∷ []) 2 both_hints_b 2 1 (Err not_take
 unfolding ops
 one_spent = ((lit≤ tt, lit≤ tt), lit< tt, (λ s. laws_16.one_zero (spanned_by_none laws_16 (elem gf16 1) s)), (λ left. omega (arith, left)))
 
-module _ {c : Code} (made : Made gf16 sheet_b c) where
+module _ {c : Code} (made : Made gf16 said_b c) where
   -- What is judged of the sheet is so of its code.
   by_code : (P : List ℕ → ℕ → Type 0) → P (2 ∷ 2 ∷ []) 2 → P (numbers c.lengths) c.dimension
   by_code P = subst₂ P (sym made.lengths) (sym made.dimension)

@@ -63,9 +63,9 @@ column_0_9_splits : Splits (ops gf16) (told gf16 [] ((0 ∷ 1 ∷ []) ∷ [])) (
 unfolding sum product power element ops
 column_0_9_splits = record { sum = refl; full_size = refl; row_size = refl; rows = (([], refl, tt, refl), (([], refl, tt, refl), tt)); columns = (elem gf16 9 ∷ [], refl, refl) }
 
--- The sheet B.
-abbrev pub sheet_b : Text
-sheet_b = text_b (1 ∷ 2 ∷ []) (1 ∷ 2 ∷ 1 ∷ 2 ∷ [])
+-- What the sheet B says.
+abbrev pub said_b : Text
+said_b = text_b (1 ∷ 2 ∷ []) (1 ∷ 2 ∷ 1 ∷ 2 ∷ [])
 
 -- In A the difference 1 is column part where its symbol is given up.
 abbrev column_13 : Parts (Elem mod13)
@@ -98,7 +98,7 @@ module _ {c : Code} (made : Made mod13 text_a c) where
       (full_splits laws_13 _, (column_13_splits, (column_13_splits, (full_splits laws_13 _, tt)))) refl
       (weighs_none laws_13 (map (elems mod13) ((0 ∷ []) ∷ (0 ∷ []) ∷ (0 ∷ []) ∷ (0 ∷ []) ∷ [])) ((refl, tt), ((refl, tt), ((refl, tt), ((refl, tt), tt))))) (lit≤ tt)
 
-module _ {c : Code} (made : Made gf16 sheet_b c) where
+module _ {c : Code} (made : Made gf16 said_b c) where
   -- The word of 1 1 is in reach of 8 4 3 4 without hints, with one error.
   pub b_one_error : Reaches gf16 c untold_b (8 ∷ 4 ∷ 3 ∷ 4 ∷ []) (0 ∷ 1 ∷ 3 ∷ 4 ∷ []) 1 ((8 ∷ 5 ∷ []) ∷ (0 ∷ 0 ∷ []) ∷ [])
   unfolding sum opposite product power element ops

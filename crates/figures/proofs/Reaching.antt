@@ -6,7 +6,6 @@ use Rattle.std.specs.List.{AllByRecursion}
 use Rattle.fields.specs.Field.{Ops, Laws, Zero, plus}
 use Rattle.fields.specs.Meaning.{Meaning}
 use Rattle.fields.specs.Elements.{Elem, ops}
-use Rattle.fields.specs.Lists.{all_follow}
 use Rattle.skew.specs.Annihilators.{places}
 use Rattle.skew.specs.Interpolation.{values}
 use Rattle.skew.specs.Roots.{Independent}
@@ -14,23 +13,20 @@ use Rattle.sheets.specs.Sheets.{Text}
 use Rattle.ranks.specs.Ranks.{Spanned, IsRank, Weighs, cut}
 use Rattle.ranks.specs.Reduction.{zeros, mix}
 use Rattle.ranks.proofs.Spans
-use Rattle.ranks.proofs.Mixing
+use Rattle.ranks.proofs.Bases
 use Rattle.ranks.proofs.Weighing
 use Rattle.codes.specs.declared.shape.Code.{Code}
 use Rattle.codes.specs.Codes.{word_of}
 use Rattle.codes.specs.Fitness.{route, Made}
 use Rattle.hints.specs.Splittings.{Given, Parts, Splits, Splitting, full_part, row_count, column_count}
 use Rattle.recovery.specs.Reach.{InReach}
-use Rattle.recovery.proofs.Hintless.{none}
+use Rattle.recovery.proofs.BareBlocks.{none}
+use Rattle.recovery.proofs.Unhinted.{spanned_by_none, all_full}
 
 module _ {F : Type 0} {o : Ops F} (l : Laws o) where
-  -- No elements span zero alone.
-  pub spanned_by_none : (x : F) → Spanned o [] x → x ≡ o.zero
-  spanned_by_none x s = s.3 ∙ Spans.comb_nil l s.0
-
   -- One element other than zero is independent.
   pub independent_one : (x : F) → x ≢ o.zero → Independent o (x ∷ [])
-  independent_one x n = Spans.ind_more l x [] (Spans.ind_nil l) (λ s. n (spanned_by_none x s))
+  independent_one x n = Bases.ind_more l x [] (Bases.ind_nil l) (λ s. n (spanned_by_none l x s))
 
   -- Zeros are spanned by no elements.
   zeros_spanned : (xs : List F) → AllByRecursion (Zero o) xs → AllByRecursion (Spanned o []) xs
@@ -39,11 +35,11 @@ module _ {F : Type 0} {o : Ops F} (l : Laws o) where
 
   -- Zeros have the rank 0.
   pub rank_none : (xs : List F) → AllByRecursion (Zero o) xs → IsRank o xs 0
-  rank_none xs h = Spans.rank_by l xs [] (Spans.ind_nil l) (zeros_spanned xs h) tt
+  rank_none xs h = Bases.rank_by l xs [] (Bases.ind_nil l) (zeros_spanned xs h) tt
 
   -- An element other than zero and its fixed multiples have the rank 1.
   pub rank_one : (x : F) (xs : List F) → x ≢ o.zero → AllByRecursion (Spanned o (x ∷ [])) xs → IsRank o (x ∷ xs) 1
-  rank_one x xs n h = Spans.rank_by l (x ∷ xs) (x ∷ []) (independent_one x n) (Spans.spanned_first l x [], h) (Spans.spanned_first l x xs, tt)
+  rank_one x xs n h = Bases.rank_by l (x ∷ xs) (x ∷ []) (independent_one x n) (Spans.spanned_first l x [], h) (Spans.spanned_first l x xs, tt)
 
   -- A word of zeros has no weight.
   pub weighs_none : (word : List (List F)) → AllByRecursion (AllByRecursion (Zero o)) word → Weighs o word 0
@@ -83,40 +79,11 @@ module _ {F : Type 0} {o : Ops F} (l : Laws o) where
     columns = ([], refl, mix_none (length e));
   }
 
-  -- A row of zeros adds nothing.
-  plus_none : (u v : List F) → length v ≡ length u → AllByRecursion (Zero o) v → plus o u v ≡ u
-  plus_none [] [] e z = refl
-  plus_none [] (y ∷ v) e z = absurd (omega arith)
-  plus_none (x ∷ u) [] e z = refl
-  plus_none (x ∷ u) (y ∷ v) e z = ap₂ (λ y f. y ∷ f) (ap (o.add x) z.0 ∙ l.add_zero x) (plus_none u v (omega arith) z.1)
-
-  -- So nothing else than the difference is the full part.
-  pub full_is : (e : List F) (p : Parts F) → Splits o none e p → p.full ≡ e
-  full_is e p s = sym (s.sum ∙ ap (plus o p.full) (plus_none p.row p.column (column_size ∙ sym s.row_size) column) ∙ plus_none p.full p.row (s.row_size ∙ sym s.full_size) row)
-    where
-      column_size : length p.column ≡ length e
-      column_size = ap length s.columns.2 ∙ Mixing.length_mix l (length e) [] s.columns.0
-
-      column : AllByRecursion (Zero o) p.column
-      column = subst (AllByRecursion (Zero o)) (sym s.columns.2) (Mixing.mix_none l (length e) s.columns.0)
-
-      row : AllByRecursion (Zero o) p.row
-      row = all_follow (Spanned o []) (Zero o) (spanned_by_none l) p.row s.rows
-
-  -- So it is in every block.
-  all_full : (n : ℕ) (es : List (List F)) (ps : List (Parts F)) → Splitting o (replicate n none) es ps → full_part ps ≡ es
-  all_full ℕ.zero [] [] s = refl
-  all_full ℕ.zero [] (p ∷ ps) s = absurd s
-  all_full ℕ.zero (e ∷ es) ps s = absurd s
-  all_full (suc n) [] ps s = absurd s
-  all_full (suc n) (e ∷ es) [] s = absurd s
-  all_full (suc n) (e ∷ es) (p ∷ ps) s = ap₂ (λ f fs. f ∷ fs) (full_is e p s.0) (all_full n es ps s.1)
-
-  -- So all splittings without hints weigh the same.
+  -- All splittings without hints weigh the same.
   pub weigh_the_same : (n : ℕ) (es : List (List F)) (ps qs : List (Parts F)) (t u : ℕ) → Splitting o (replicate n none) es ps → Splitting o (replicate n none) es qs
       → Weighs o (full_part ps) t → Weighs o (full_part qs) u → t ≡ u
   weigh_the_same n es ps qs t u s r v w =
-      (Weighing.ranked l).one_weight es t u (subst (λ word. Weighs o word t) (all_full n es ps s) v) (subst (λ word. Weighs o word u) (all_full n es qs r) w)
+      (Weighing.ranked l).one_weight es t u (subst (λ word. Weighs o word t) (all_full l n es ps s) v) (subst (λ word. Weighs o word u) (all_full l n es qs r) w)
 
 module _ {m : Meaning} {t : Text} {c : Code} (made : Made m t c) where
   -- The word of a message, by the points of the sheet.

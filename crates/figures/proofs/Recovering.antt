@@ -2,9 +2,10 @@
 --
 --   Fit m ns gs          there are hints for each block, and the column hints of one of n symbols are rows of n fixed coefficients
 --   Fewest m c gs w v n  no splitting of the difference of w and v has fewer full errors than n
-use Rattle.std.proofs.Common.{◌≡◌, ℕ, suc, ◌<◌, ◌≤◌, List, [], ◌∷◌, length, get_or, replicate, Ok, sym, refl, ap, ◌∙◌, subst, arith}
+use Rattle.std.proofs.Common.{◌≡◌, ℕ, suc, ◌+◌, ◌<◌, ◌≤◌, List, [], ◌∷◌, map, length, get_or, replicate, Ok, sym, refl, ap, ◌∙◌, subst, arith}
 use Rattle.std.proofs.lemmas.List.{length-map}
 use Rattle.std.specs.List.{AllByRecursion}
+use Rattle.fields.specs.Field.{plus}
 use Rattle.fields.specs.Meaning.{Meaning, Laws}
 use Rattle.fields.specs.Elements.{Elem, elem, elems, codes, ops}
 use Rattle.fields.proofs.Carrier
@@ -15,18 +16,21 @@ use Rattle.ranks.specs.Reduction.{Row}
 use Rattle.codes.specs.declared.shape.Code.{Code}
 use Rattle.codes.specs.Holdings.{held as numbers}
 use Rattle.codes.specs.Fitness.{route, Made}
-use Rattle.hints.specs.Splittings.{Given, Parts, Splitting, full_part}
+use Rattle.hints.specs.Splittings.{Given, Parts, Splitting, full_part, row_count, column_count}
 use Rattle.hints.specs.Holdings.{no_hints}
 use Rattle.hints.specs.Outcomes.{parts_of}
 use Rattle.recovery.specs.declared.outcome.Recovery.{Recovery}
 use Rattle.recovery.specs.Reach.{InReach, apart}
-use Rattle.recovery.proofs.Hintless.{none}
+use Rattle.recovery.proofs.BareBlocks.{none, nothing_given}
+use Rattle.recovery.proofs.Unhinted.{difference_is}
 use Rattle.recovery.proofs.Uniqueness.{one_in_reach}
 use Rattle.station.specs.Calls.{decode, Reply, done, wrote, weighs, counted, handed}
+use Rattle.station.specs.Tables.{Accepts}
 use Rattle.station.specs.Positions.{held, solved, Tallied, Position, at}
+use Rattle.station.specs.Refusals.{rows_of}
 use Rattle.station.specs.Rules.{Solves, Acts}
 use Rattle.station.proofs.Reported.{always}
-use Rattle.figures.specs.Figures.{Gives}
+use Rattle.figures.specs.Figures.{Decodes, Gives, GivesFull}
 use Rattle.figures.proofs.Answering.{not_refused}
 use Rattle.figures.proofs.Reaching.{weigh_the_same}
 
@@ -82,24 +86,49 @@ module _ {m : Meaning} (l : Laws m) {t : Text} {c : Code} (made : Made m t c) {g
         let least = R.least reach.parts reach.errors (subst (λ u. Splitting (ops m) gs (apart m c (elems m w) u) reach.parts) (sym same) reach.splitting) reach.weight in
         omega (arith, errors, most, least)
 
-    -- So decode gives it.
-    given_so : Fewest m c gs w v n → Gives m c gs w v n
-    given_so fewest t room a q h =
-        let (x, is, acts) = not_refused (at m (held c w gs) t) q decode a (always refl, ((λ e row. omega (arith, row.0, room)), ((λ e row. row.0 (elems m v) reach), tt))) h in
-        let (so, r, R, stands) = decodes m c w gs t x q acts in
-        (is ∙ ap Ok so, (r, stands, sym R.codes.1 ∙ ap codes (same_codeword reach r R) ∙ proper, same_errors fewest r R))
+    -- Its codeword is this one.
+    codeword_is : (r : Recovery) → Solves m c gs w r → numbers r.codeword ≡ v
+    codeword_is r R = sym R.codes.1 ∙ ap codes (same_codeword reach r R) ∙ proper
 
-    -- So it is where it has none.
+    -- Decode gives what holds of all that solves.
+    decodes_so : {So : Recovery → Type 0} → ((r : Recovery) → Solves m c gs w r → So r) → Decodes m c gs w So
+    decodes_so so t room = (
+      accepted,
+      λ a q h.
+          let (x, is, acts) = not_refused (at m (held c w gs) t) q decode a accepted h in
+          let (replied, r, R, stands) = decodes m c w gs t x q acts in
+          (is ∙ ap Ok replied, (r, stands, so r R)),
+    )
+      where
+        accepted : Accepts (rows_of m (at m (held c w gs) t) decode)
+        accepted = (always refl, ((λ e row. omega (arith, row.0, room)), ((λ e row. row.0 (elems m v) reach), tt)))
+
+    -- So it gives this codeword where it has no error.
     pub given : n ≡ 0 → Gives m c gs w v n
-    given no_errors = given_so (λ ps k s weight. omega (arith, no_errors))
+    given no_errors = decodes_so (λ r R. (codeword_is r R, same_errors (λ ps k s weight. omega (arith, no_errors)) r R))
 
-    -- And without hints, where all splittings weigh the same.
-    pub given_unhinted : (j : ℕ) → gs ≡ replicate j none → Gives m c gs w v n
-    given_unhinted j bare =
-        given_so (λ ps k s weight.
-        omega (
-          arith,
-          errors,
-          weigh_the_same (Carrier.ops_laws l) j (apart m c (elems m w) (elems m v)) ps reach.parts k reach.errors (subst (λ hs. Splitting (ops m) hs (apart m c (elems m w) (elems m v)) ps) bare s)
-              (subst (λ hs. Splitting (ops m) hs (apart m c (elems m w) (elems m v)) reach.parts) bare reach.splitting) weight reach.weight,
-        ))
+    module _ (j : ℕ) (bare : gs ≡ replicate j none) where
+      -- Without hints all splittings weigh the same.
+      fewest_unhinted : Fewest m c gs w v n
+      fewest_unhinted ps k s weight = omega (
+        arith,
+        errors,
+        weigh_the_same (Carrier.ops_laws l) j (apart m c (elems m w) (elems m v)) ps reach.parts k reach.errors (subst (λ hs. Splitting (ops m) hs (apart m c (elems m w) (elems m v)) ps) bare s)
+            (subst (λ hs. Splitting (ops m) hs (apart m c (elems m w) (elems m v)) reach.parts) bare reach.splitting) weight reach.weight,
+      )
+
+      -- There is no hint.
+      no_hint : row_count gs + column_count gs ≡ 0
+      no_hint = omega (arith, ap row_count bare, ap column_count bare, (nothing_given (Elem m) j).0, (nothing_given (Elem m) j).1)
+
+      -- And the full part is the difference.
+      full_is : (r : Recovery) → Solves m c gs w r → numbers r.parts.full ≡ codes (plus (ops m) (elems m w) (map (ops m).neg (elems m v)))
+      full_is r R =
+          sym R.codes.2
+          ∙ ap codes (difference_is l c gs (elems m w) (elems m (numbers r.codeword)) r.parts (as_many m t.blocks gs fit ∙ sym (ap length made.lengths)) no_hint
+          (length-map w (elem m) ∙ long ∙ sym (ap length made.points)) (length-map (numbers r.codeword) (elem m) ∙ R.sizes.0) R.sizes.1 R.splitting
+          ∙ ap (λ u. plus (ops m) (elems m w) (map (ops m).neg u)) (same_codeword reach r R))
+
+      -- So it gives it with that full part.
+      pub given_unhinted : {full : List ℕ} → codes (plus (ops m) (elems m w) (map (ops m).neg (elems m v))) ≡ full → GivesFull m c gs w v n full
+      given_unhinted is = decodes_so (λ r R. (codeword_is r R, same_errors fewest_unhinted r R, full_is r R ∙ is))

@@ -23,8 +23,9 @@ use Rattle.codes.specs.declared.shape.Code.{Code}
 use Rattle.codes.specs.Fitness.{route, Made}
 use Rattle.hints.specs.Splittings.{Given, Parts, Splitting, full_part, row_count, column_count}
 use Rattle.recovery.specs.Reach.{InReach}
+use Rattle.recovery.proofs.Unhinted.{full_is}
 use Rattle.figures.specs.Figures.{text_a, told}
-use Rattle.figures.proofs.Reaching.{independent_one, full_is}
+use Rattle.figures.proofs.Reaching.{independent_one}
 
 abbrev pub hinted : List Bool → List (Given (Elem mod13))
 hinted marks = map (λ marked. told mod13 [] (cond marked ((1 ∷ []) ∷ []) [])) marks

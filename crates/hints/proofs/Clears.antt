@@ -4,6 +4,7 @@ use Rattle.std.proofs.lemmas.List.{length-map}
 use Rattle.std.specs.List.{AllByRecursion}
 use Rattle.fields.specs.Field.{Ops, Laws, Zero, Fixed, plus}
 use Rattle.fields.specs.Basics
+use Rattle.fields.specs.Twists
 use Rattle.fields.specs.Basics.{ring}
 use Rattle.fields.specs.Rows
 use Rattle.skew.proofs.Evaluation
@@ -13,8 +14,9 @@ use Rattle.ranks.specs.Ranks.{pick, Spanned}
 use Rattle.ranks.specs.Reduction.{count, heads, tails, mix, Pivots, Reduced}
 use Rattle.ranks.specs.RowSteps.{clear}
 use Rattle.ranks.proofs.Spans
+use Rattle.ranks.proofs.Picks
 use Rattle.ranks.proofs.Mixing
-use Rattle.ranks.proofs.Inserting
+use Rattle.ranks.proofs.ClearedRow
 use Rattle.hints.specs.Splittings.{Given, Parts, Splits}
 
 module _ {F : Type 0} {o : Ops F} (l : Laws o) where
@@ -28,7 +30,7 @@ module _ {F : Type 0} {o : Ops F} (l : Laws o) where
   plus_comm (x ∷ u) (y ∷ v) = cons_path (Basics.add_comm l x y) (plus_comm u v)
 
   -- The first two of three rows in either order.
-  plus_left_comm : (u v w : List F) → plus o u (plus o v w) ≡ plus o v (plus o u w)
+  pub plus_left_comm : (u v w : List F) → plus o u (plus o v w) ≡ plus o v (plus o u w)
   plus_left_comm u v w = sym (Sums.plus_assoc l u v w) ∙ ap (λ z. plus o z w) (plus_comm u v) ∙ Sums.plus_assoc l v u w
 
   -- Opposites of a sum.
@@ -38,7 +40,7 @@ module _ {F : Type 0} {o : Ops F} (l : Laws o) where
   negs_plus (x ∷ u) (y ∷ v) = cons_path (Basics.neg_sum l x y) (negs_plus u v)
 
   -- Images of a sum.
-  map_plus : (T : F → F) → Evaluation.Linear l T → (u v : List F) → map T (plus o u v) ≡ plus o (map T u) (map T v)
+  pub map_plus : (T : F → F) → Evaluation.Linear l T → (u v : List F) → map T (plus o u v) ≡ plus o (map T u) (map T v)
   map_plus T L [] v = refl
   map_plus T L (x ∷ u) [] = refl
   map_plus T L (x ∷ u) (y ∷ v) = cons_path (L.0 x y) (map_plus T L u v)
@@ -47,7 +49,7 @@ module _ {F : Type 0} {o : Ops F} (l : Laws o) where
   pub clear_plus : (marks : List Bool) (hs : List (List F)) (u v : List F) → length u ≡ length v → clear o marks hs (plus o u v) ≡ plus o (clear o marks hs u) (clear o marks hs v)
   clear_plus marks hs u v e =
       ap (λ n. plus o (plus o u v) (map neg (mix o n hs (pick marks (plus o u v))))) (Rows.length_plus l u v ∙ largest)
-      ∙ ap (λ w. plus o (plus o u v) (map neg (mix o (length u) hs w))) (Mixing.pick_plus l marks u v e)
+      ∙ ap (λ w. plus o (plus o u v) (map neg (mix o (length u) hs w))) (Picks.pick_plus l marks u v e)
       ∙ ap (λ w. plus o (plus o u v) (map neg w)) (Mixing.mix_plus l (length u) hs (pick marks u) (pick marks v))
       ∙ swap u v (mix o (length u) hs (pick marks u)) (mix o (length u) hs (pick marks v))
       ∙ ap (λ n. plus o (clear o marks hs u) (plus o v (map neg (mix o n hs (pick marks v))))) e
@@ -60,24 +62,24 @@ module _ {F : Type 0} {o : Ops F} (l : Laws o) where
 
   -- The opposite of what is spanned.
   spanned_neg : (es : List F) (u : F) → Spanned o es u → Spanned o es (neg u)
-  spanned_neg es u s = subst (Spanned o es) (one_less u) (Spans.spanned_scale l es (neg one) u (Basics.fixed_neg l one (Basics.fixed_one l)) s)
+  spanned_neg es u s = subst (Spanned o es) (one_less u) (Spans.spanned_scale l es (neg one) u (Twists.fixed_neg l one (Twists.fixed_one l)) s)
     where
       one_less : (y : F) → neg one * y ≡ neg y
       one_less y = simp (ring, l)
 
   -- Opposites of what is spanned.
-  all_neg : (es us : List F) → AllByRecursion (Spanned o es) us → AllByRecursion (Spanned o es) (map neg us)
+  pub all_neg : (es us : List F) → AllByRecursion (Spanned o es) us → AllByRecursion (Spanned o es) (map neg us)
   all_neg es [] h = tt
   all_neg es (u ∷ us) h = (spanned_neg es u h.0, all_neg es us h.1)
 
   -- Sums of what is spanned.
-  all_sum : (es us vs : List F) → AllByRecursion (Spanned o es) us → AllByRecursion (Spanned o es) vs → AllByRecursion (Spanned o es) (plus o us vs)
+  pub all_sum : (es us vs : List F) → AllByRecursion (Spanned o es) us → AllByRecursion (Spanned o es) vs → AllByRecursion (Spanned o es) (plus o us vs)
   all_sum es [] vs h k = k
   all_sum es (u ∷ us) [] h k = h
   all_sum es (u ∷ us) (v ∷ vs) h k = (Spans.spanned_add l es u v h.0 k.0, all_sum es us vs h.1 k.1)
 
   -- Sums of fixed rows times what is spanned.
-  all_mix : (n : ℕ) (hs : List (List F)) (es ps : List F) → AllByRecursion (AllByRecursion (Fixed o)) hs → AllByRecursion (Spanned o es) ps → AllByRecursion (Spanned o es) (mix o n hs ps)
+  pub all_mix : (n : ℕ) (hs : List (List F)) (es ps : List F) → AllByRecursion (AllByRecursion (Fixed o)) hs → AllByRecursion (Spanned o es) ps → AllByRecursion (Spanned o es) (mix o n hs ps)
   all_mix ℕ.zero hs es ps k h = tt
   all_mix (suc n) hs es ps k h = (Spans.spanned_comb l es (heads o hs) ps (Mixing.fixed_heads l hs k) h, all_mix n (tails o hs) es ps (Mixing.fixed_tails l hs k) h)
 
@@ -98,7 +100,7 @@ module _ {F : Type 0} {o : Ops F} (l : Laws o) where
       same : mix o (length (mix o (length marks) hs xs)) hs (pick marks (mix o (length marks) hs xs)) ≡ mix o (length marks) hs xs
       same =
           ap (λ n. mix o n hs (pick marks (mix o (length marks) hs xs))) (Mixing.length_mix l (length marks) hs xs)
-          ∙ ap (λ w. mix o (length marks) hs w) (Mixing.pick_mix l 0 marks hs xs h e (omega arith))
+          ∙ ap (λ w. mix o (length marks) hs w) (Picks.pick_mix l 0 marks hs xs h e (omega arith))
 
   -- Images of what is spanned are spanned by the images.
   all_image : (T : F → F) → Evaluation.Linear l T → (es v : List F) → AllByRecursion (Spanned o es) v → AllByRecursion (Spanned o (map T es)) (map T v)
@@ -127,7 +129,7 @@ module _ {F : Type 0} {o : Ops F} (l : Laws o) where
       cleared v = clear o marks g.columns v
 
       fixed : AllByRecursion (AllByRecursion (Fixed o)) g.columns
-      fixed = Inserting.fixed_list l g.columns n red.rows
+      fixed = ClearedRow.fixed_list l g.columns n red.rows
 
       column_is : p.column ≡ mix o (length marks) g.columns P.columns.0
       column_is = P.columns.2 ∙ ap (λ i. mix o i g.columns P.columns.0) (len ∙ sym red.size)

@@ -4,15 +4,21 @@
 use Rattle.std.proofs.Common.{◌≡◌, ℕ, suc, ◌≤◌, Bool, true, false, ◌≢◌, ◌⊎◌, List, [], ◌∷◌, map, length, replicate, sym, refl, ap, ◌∙◌, subst, inl, inr, arith}
 use Rattle.std.proofs.lemmas.List.{length-map, length-replicate}
 use Rattle.std.specs.List.{AllByRecursion}
-use Rattle.fields.specs.Field.{Ops, Laws, Zero, plus, scale, comb}
+use Rattle.fields.specs.Field.{Ops, Laws, Zero, plus, scale}
+use Rattle.fields.specs.Twists
+use Rattle.fields.specs.Inverses
 use Rattle.fields.specs.Basics
 use Rattle.fields.specs.Basics.{ring}
 use Rattle.skew.specs.Products.{coef}
 use Rattle.skew.proofs.Sums.{cons_path}
+use Rattle.skew.proofs.Vanishing
 use Rattle.ranks.specs.Reduction.{count, heads, tails, mix, Row, AmongRows, Pivots, Reduced}
 use Rattle.ranks.specs.RowSteps.{clear}
 use Rattle.ranks.proofs.Mixing
+use Rattle.ranks.proofs.RowSpans
+use Rattle.ranks.proofs.ClearedRow
 use Rattle.ranks.proofs.Inserting
+use Rattle.ranks.proofs.Putting
 use Rattle.hints.specs.Splittings.{FreeRows}
 
 pub record FormOf {F : Type 0} (o : Ops F) (n : ℕ) (hs : List (List F)) : Type 0 where
@@ -29,7 +35,7 @@ count_few (true ∷ marks) = omega (arith, count_few marks)
 count_few (false ∷ marks) = omega (arith, count_few marks)
 
 -- Where nothing is marked.
-count_none : (n : ℕ) → count (replicate n false) ≡ 0
+pub count_none : (n : ℕ) → count (replicate n false) ≡ 0
 count_none ℕ.zero = refl
 count_none (suc n) = count_none n
 
@@ -51,13 +57,13 @@ module _ {F : Type 0} {o : Ops F} (l : Laws o) where
   -- Independent rows without the first.
   free_rest : (n : ℕ) (h : List F) (hs : List (List F)) → length h ≡ n → FreeRows o n (h ∷ hs) → FreeRows o n hs
   free_rest n h hs e free cs len fix z =
-      (free (zero ∷ cs) (ap suc len) (Basics.fixed_zero l, fix)
-      (subst (AllByRecursion (Zero o)) (sym (Mixing.mix_cons l n h hs zero cs e ∙ Mixing.plus_none l n h (mix o n hs cs) (e ∙ sym (Mixing.length_mix l n hs cs)))) z)).1
+      (free (zero ∷ cs) (ap suc len) (Twists.fixed_zero l, fix)
+      (subst (AllByRecursion (Zero o)) (sym (Mixing.mix_cons l n h hs zero cs e ∙ RowSpans.plus_none l n h (mix o n hs cs) (e ∙ sym (Mixing.length_mix l n hs cs)))) z)).1
 
   -- The others do not span the first.
   free_first : (n : ℕ) (h : List F) (hs : List (List F)) → length h ≡ n → FreeRows o n (h ∷ hs) → ¬ AmongRows o n hs h
   free_first n h hs e free s =
-      Basics.one_zero l (sym (Basics.neg_neg l one) ∙ ap neg (free (neg one ∷ s.0) (ap suc s.1) (Basics.fixed_neg l one (Basics.fixed_one l), s.2) gone).0 ∙ Basics.neg_zero l)
+      Inverses.one_zero l (sym (Basics.neg_neg l one) ∙ ap neg (free (neg one ∷ s.0) (ap suc s.1) (Twists.fixed_neg l one (Twists.fixed_one l), s.2) gone).0 ∙ Basics.neg_zero l)
     where
       away : (v : List F) → AllByRecursion (Zero o) (plus o (scale o (neg one) v) v)
       away [] = tt
@@ -77,7 +83,7 @@ module _ {F : Type 0} {o : Ops F} (l : Laws o) where
     rows = rows;
     reduced = red;
     as_many = more ∙ ap suc f.as_many;
-    from = Mixing.all_among_trans l n (h ∷ hs) (h ∷ f.rows) rows (row, f.reduced.rows) (Mixing.among_first l n h hs row.0, Mixing.all_among_more l n h hs f.rows row.0 f.from) from;
+    from = RowSpans.all_among_trans l n (h ∷ hs) (h ∷ f.rows) rows (row, f.reduced.rows) (RowSpans.among_first l n h hs row.0, RowSpans.all_among_more l n h hs f.rows row.0 f.from) from;
   }
 
   -- Independent rows have a reduced form with as many.
@@ -87,26 +93,20 @@ module _ {F : Type 0} {o : Ops F} (l : Laws o) where
   form_of n (h ∷ hs) k free =
       let f = form_of n hs k.1 (free_rest n h hs k.0.0 free) in
       elim (seen (clear o f.marks f.rows h)) [
-        | inl z ↦ absurd (free_first n h hs k.0.0 free (Mixing.among_trans l n hs f.rows h f.reduced.rows f.from (Inserting.none_spanned l n h f.marks f.rows f.reduced k.0 z)))
+        | inl z ↦ absurd (free_first n h hs k.0.0 free (RowSpans.among_trans l n hs f.rows h f.reduced.rows f.from (ClearedRow.none_spanned l n h f.marks f.rows f.reduced k.0 z)))
         | inr q ↦
             let i = Inserting.put_in l n h f.marks f.rows f.reduced k.0 q.0 q.1 in
-            one_more n h hs k.0 f i.0 (Inserting.length_put _ _ _ ∙ ap suc (length-map f.rows _)) i.2
+            one_more n h hs k.0 f i.0 (Putting.length_put _ _ _ ∙ ap suc (length-map f.rows _)) i.2
       ]
 
   -- There are no more of them than places.
   free_few : (n : ℕ) (hs : List (List F)) → AllByRecursion (Row o n) hs → FreeRows o n hs → length hs ≤ n
   free_few n hs k free = let f = form_of n hs k free in omega (arith, f.as_many, f.reduced.full, f.reduced.size, count_few f.marks)
 
-  -- A combination of zeros.
-  comb_zeros : (cs ys : List F) → AllByRecursion (Zero o) ys → comb o cs ys ≡ zero
-  comb_zeros [] ys z = refl
-  comb_zeros (c ∷ cs) [] z = refl
-  comb_zeros (c ∷ cs) (y ∷ ys) z = ap (λ w. c * w + comb o cs ys) z.0 ∙ ap (λ w. c * zero + w) (comb_zeros cs ys z.1) ∙ simp (ring, l)
-
   -- Rows times zeros.
   mix_zeros : (n : ℕ) (hs : List (List F)) (ys xs : List F) → AllByRecursion (Zero o) ys → mix o n hs ys ≡ mix o n [] xs
   mix_zeros ℕ.zero hs ys xs z = refl
-  mix_zeros (suc n) hs ys xs z = cons_path (comb_zeros (heads o hs) ys z) (mix_zeros n (tails o hs) ys xs z)
+  mix_zeros (suc n) hs ys xs z = cons_path (Vanishing.comb_null l (heads o hs) ys z) (mix_zeros n (tails o hs) ys xs z)
 
   module _ (n : ℕ) (hs : List (List F)) where
     -- The coefficients with which rows are sums of hs, as rows.

@@ -1,7 +1,11 @@
 -- A hint is judged, and one that is taken is held with the others.
-use Rattle.std.proofs.Common.{◌≡◌, ℕ, suc, ◌+◌, ◌-◌, ◌<◌, ◌≤◌, List, [], ◌∷◌, ◌++◌, map, length, get_or, set, replicate, sym, refl, ap, ◌∙◌, subst, inl, inr, arith, length-set, get_or-set_other, get_or-set_same}
+--
+--   row_depends, column_depends    what the form spans depends on the earlier hints
+--   row_fresh, column_fresh        what it does not span is new
+--   row_taken, column_taken        and is held with the others
+use Rattle.std.proofs.Common.{◌≡◌, ℕ, suc, ◌+◌, ◌-◌, ◌<◌, ◌≤◌, List, [], ◌∷◌, ◌++◌, length, get_or, set, replicate, sym, ap, ◌∙◌, subst, inl, inr, arith, length-set, get_or-set_other, get_or-set_same}
 use Rattle.std.proofs.Math.Decide.{ℕ_discrete}
-use Rattle.std.proofs.lemmas.List.{length-map, length-replicate, get_or-replicate}
+use Rattle.std.proofs.lemmas.List.{length-map}
 use Rattle.std.proofs.lemmas.Bool.{cases_lt}
 use Rattle.std.specs.List.{AllByRecursion}
 use Rattle.fields.specs.Field as field
@@ -11,19 +15,15 @@ use Rattle.fields.proofs.Carrier
 use Rattle.ranks.specs.Ranks.{total, Spanned}
 use Rattle.ranks.specs.Reduction.{Row, AmongRows, rows_of, InForm, Extended, eight}
 use Rattle.ranks.specs.declared.rows.Form.{Form}
-use Rattle.ranks.proofs.Mixing
-use Rattle.ranks.proofs.Ranking
+use Rattle.ranks.proofs.PaddedDigits
 use Rattle.hints.specs.Splittings.{Given, row_count, column_count}
-use Rattle.hints.specs.Holdings.{padded, FormHolds, BlockHolds, no_block, no_hints, Holds}
+use Rattle.hints.specs.Holdings.{padded, BlockHolds, no_block, no_hints, Holds}
 use Rattle.hints.specs.declared.block.BlockHints.{BlockHints}
 use Rattle.hints.specs.declared.holder.Hints.{Hints}
-use Rattle.codes.specs.declared.shape.Code.{Code}
-use Rattle.codes.specs.Holdings.{stops}
-use Rattle.codes.specs.Holdings.{held as held_in}
 use Rattle.codes.specs.Fitness.{AllNot}
 use Rattle.hints.specs.Taking.{There, Unfixed, block_of, FreshRow, FreshColumn, Left, with_row, with_column}
-use Rattle.hints.proofs.Padding
 use Rattle.hints.proofs.Padding.{padded_numbers}
+use Rattle.hints.proofs.HeldForms
 
 -- One block changed: its row hints are counted anew.
 count_rows : {F : Type 0} (gs : List (Given F)) (i : ℕ) (d g : Given F) → i < length gs → row_count (set gs i g) + length (get_or gs i d).rows ≡ row_count gs + length g.rows
@@ -38,79 +38,6 @@ count_columns (x ∷ gs) ℕ.zero d g h = omega arith
 count_columns (x ∷ gs) (suc i) d g h = omega (arith, count_columns gs i d g (omega arith))
 
 module _ {m : Meaning} (l : Laws m) where
-  -- The laws of the elements.
-  laws : field.Laws (ops m)
-  laws = Carrier.ops_laws l
-
-  -- A form with one row more holds one row more.
-  pub form_more : {f g : Form} {h : List (Elem m)} (hs : List (List (Elem m))) → Row (ops m) 8 h → AllByRecursion (Row (ops m) 8) hs → FormHolds m f hs → Extended m f h g → FormHolds m g (h ∷ hs)
-  form_more {f} {g} {h} hs row rows held more = record {
-    form = more.form;
-    size = more.more ∙ ap suc held.size;
-    from = Mixing.all_among_trans laws 8 (h ∷ hs) (h ∷ rows_of m f) (rows_of m g) (row, held.form.reduced.rows)
-        (Mixing.among_first laws 8 h hs row.0, Mixing.all_among_more laws 8 h hs (rows_of m f) row.0 held.from) more.from;
-    back = (more.back.0, Mixing.all_among_trans laws 8 (rows_of m g) (rows_of m f) hs held.form.reduced.rows more.back.1 held.back);
-  }
-
-  -- The digits of elements are rows.
-  digit_rows : (us : List (Elem m)) → AllByRecursion (Row (ops m) 8) (map (eight m) us)
-  digit_rows [] = tt
-  digit_rows (u ∷ us) = ((Ranking.numerals l).fixed u, digit_rows us)
-
-  module _ {f : Form} (us : List (Elem m)) (held : FormHolds m f (map (eight m) us)) (x : Elem m) where
-    -- Digits that the form spans are those of an element that the row hints span.
-    pub row_spanned : AmongRows (ops m) 8 (rows_of m f) (eight m x) → Spanned (ops m) us x
-    row_spanned k =
-        Ranking.spans_down laws 8 (eight m) (Ranking.numerals l) us x (Mixing.among_trans laws 8 (map (eight m) us) (rows_of m f) (eight m x) held.form.reduced.rows held.from k)
-
-    -- And back.
-    pub row_among : Spanned (ops m) us x → AmongRows (ops m) 8 (rows_of m f) (eight m x)
-    row_among k = Mixing.among_trans laws 8 (rows_of m f) (map (eight m) us) (eight m x) (digit_rows us) held.back (Ranking.spans_up laws 8 (eight m) (Ranking.numerals l) us x k)
-
-    -- One row hint more.
-    pub row_more : {g : Form} → Extended m f (eight m x) g → FormHolds m g (map (eight m) (x ∷ us))
-    row_more more = form_more (map (eight m) us) ((Ranking.numerals l).fixed x) (digit_rows us) held more
-
-  module _ {f : Form} (n : ℕ) (few : n ≤ 8) (hs : List (List (Elem m))) (rows : AllByRecursion (Row (ops m) n) hs) (held : FormHolds m f (map (padded m) hs)) (h : List (Elem m)) (row : Row (ops m) n h) where
-    -- The zeros behind.
-    wide : n + (8 - n) ≡ 8
-    wide = omega arith
-
-    pad : (u : List (Elem m)) → length u ≡ n → Padding.behind (ops m) (8 - n) u ≡ padded m u
-    pad u e = ap (λ k. u ++ replicate (8 - k) (ops m).zero) (sym e)
-
-    pads : (us : List (List (Elem m))) → AllByRecursion (Row (ops m) n) us → map (Padding.behind (ops m) (8 - n)) us ≡ map (padded m) us
-    pads [] r = refl
-    pads (u ∷ us) r = ap (λ w. w ∷ map (Padding.behind (ops m) (8 - n)) us) (pad u r.0.0) ∙ ap (λ w. padded m u ∷ w) (pads us r.1)
-
-    -- A row with zeros behind has eight places.
-    pub column_row : Row (ops m) 8 (padded m h)
-    column_row = subst (Row (ops m) 8) (pad h row.0) (subst (λ k. Row (ops m) k (Padding.behind (ops m) (8 - n) h)) wide (Padding.row_behind laws n (8 - n) h row))
-
-    -- So have all.
-    column_rows : AllByRecursion (Row (ops m) 8) (map (padded m) hs)
-    column_rows = subst (AllByRecursion (Row (ops m) 8)) (pads hs rows) (subst (λ k. AllByRecursion (Row (ops m) k) (map (Padding.behind (ops m) (8 - n)) hs)) wide (Padding.rows_behind laws n (8 - n) hs rows))
-
-    -- Told with zeros behind and without.
-    same : AmongRows (ops m) (n + (8 - n)) (map (Padding.behind (ops m) (8 - n)) hs) (Padding.behind (ops m) (8 - n) h) ≡ AmongRows (ops m) 8 (map (padded m) hs) (padded m h)
-    same =
-        ap (λ k. AmongRows (ops m) k (map (Padding.behind (ops m) (8 - n)) hs) (Padding.behind (ops m) (8 - n) h)) wide
-        ∙ ap (λ w. AmongRows (ops m) 8 w (Padding.behind (ops m) (8 - n) h)) (pads hs rows) ∙ ap (AmongRows (ops m) 8 (map (padded m) hs)) (pad h row.0)
-
-    -- A row that the form spans is one that the column hints span.
-    pub column_spanned : AmongRows (ops m) 8 (rows_of m f) (padded m h) → AmongRows (ops m) n hs h
-    column_spanned k =
-        Padding.among_before laws n (8 - n) hs h rows row.0
-        (subst (λ T. T) (sym same) (Mixing.among_trans laws 8 (map (padded m) hs) (rows_of m f) (padded m h) held.form.reduced.rows held.from k))
-
-    -- And back.
-    pub column_among : AmongRows (ops m) n hs h → AmongRows (ops m) 8 (rows_of m f) (padded m h)
-    column_among k = Mixing.among_trans laws 8 (rows_of m f) (map (padded m) hs) (padded m h) column_rows held.back (subst (λ T. T) same (Padding.among_behind laws n (8 - n) hs h rows k))
-
-    -- One column hint more.
-    pub column_more : {g : Form} → Extended m f (padded m h) g → FormHolds m g (map (padded m) (h ∷ hs))
-    column_more more = form_more (map (padded m) hs) column_row column_rows held more
-
   -- Coefficients that are fixed codes are fixed elements.
   pub all_fixed : (d : List ℕ) → AllNot (Unfixed m) d → AllByRecursion (field.Fixed (ops m)) (elems m d)
   all_fixed [] u = tt
@@ -137,8 +64,8 @@ module _ {m : Meaning} (l : Laws m) where
   -- What an insertion says of the digits of an element.
   digits_told : (P : List (Elem m) → Type 0) {f : Form} (ds : List ℕ) (x : ℕ) → ds ≡ digit_row m x → InForm m f → (InForm m f → Row (ops m) 8 (elems m ds) → P (elems m ds)) → P (eight m (elem m x))
   digits_told P ds x e form k =
-      let same = Ranking.eight_answers l x e in
-      subst P same (k form (subst (Row (ops m) 8) (sym same) ((Ranking.numerals l).fixed (elem m x))))
+      let same = PaddedDigits.eight_answers l x e in
+      subst P same (k form (subst (Row (ops m) 8) (sym same) ((PaddedDigits.numerals l).fixed (elem m x))))
 
   module _ {ns : List ℕ} {k b i : ℕ} {h : Hints} {gs : List (Given (Elem m))} (there : There ns b) (place : i ≡ b - 1) (held : Holds m ns k h gs) where
     -- Blocks count from 1.
@@ -149,6 +76,7 @@ module _ {m : Meaning} (l : Laws m) where
     abbrev block : BlockHints
     block = get_or h.blocks i no_block
 
+    -- They hold its hints.
     here : BlockHolds m (get_or ns (b - 1) 0) block (block_of m gs b)
     here = subst (λ j. BlockHolds m (get_or ns (b - 1) 0) (get_or h.blocks j no_block) (block_of m gs b)) (sym place) (held.blocks (b - 1) low)
 
@@ -170,22 +98,23 @@ module _ {m : Meaning} (l : Laws m) where
     module _ (x : ℕ) {ds : List ℕ} (e : ds ≡ digit_row m x) where
       -- A row hint that the form spans depends on the others.
       pub row_depends : (InForm m block.rows → Row (ops m) 8 (elems m ds) → AmongRows (ops m) 8 (rows_of m block.rows) (elems m ds)) → Spanned (ops m) (block_of m gs b).rows (elem m x)
-      row_depends k = row_spanned (block_of m gs b).rows here.rows (elem m x) (digits_told (AmongRows (ops m) 8 (rows_of m block.rows)) ds x e here.rows.form k)
+      row_depends k = HeldForms.row_spanned l (block_of m gs b).rows here.rows (elem m x) (digits_told (AmongRows (ops m) 8 (rows_of m block.rows)) ds x e here.rows.form k)
 
       module _ {g : Form} (more : InForm m block.rows → Row (ops m) 8 (elems m ds) → Extended m block.rows (elems m ds) g) where
+        -- What an insertion that takes the digits says, told of the element.
         longer : Extended m block.rows (eight m (elem m x)) g
         longer = digits_told (λ w. Extended m block.rows w g) ds x e here.rows.form more
 
         -- One that it does not span is new.
         pub row_fresh : FreshRow m gs b x
-        row_fresh k = longer.new (row_among (block_of m gs b).rows here.rows (elem m x) k)
+        row_fresh k = longer.new (HeldForms.row_among l (block_of m gs b).rows here.rows (elem m x) k)
 
         -- A new one is held with the others.
         pub row_taken : (h' : Hints) → length ns ≤ 12 → length h.blocks ≡ 12 → Left m ns k gs → h'.blocks ≡ set h.blocks i (record { rows = g; columns = block.columns })
             → h'.rows ≡ h.rows + 1 → h'.columns ≡ h.columns → Holds m ns k h' (with_row m gs b x)
         row_taken h' few room left eb er ec =
             anew (record { rows = g; columns = block.columns }) (record { rows = elem m x ∷ (block_of m gs b).rows; columns = (block_of m gs b).columns }) h' few room
-            (record { rows = row_more (block_of m gs b).rows here.rows (elem m x) longer; columns = here.columns; fit = here.fit }) eb (omega (arith, er)) (omega (arith, ec)) (omega (arith, left, er, ec, held.rows, held.columns))
+            (record { rows = HeldForms.row_more l (block_of m gs b).rows here.rows (elem m x) longer; columns = here.columns; fit = here.fit }) eb (omega (arith, er)) (omega (arith, ec)) (omega (arith, left, er, ec, held.rows, held.columns))
 
     module _ (each : (j : ℕ) → j < length ns → (1 ≤ get_or ns j 0) × (get_or ns j 0 ≤ 8)) (c : List ℕ) (long : length c ≡ get_or ns i 0) (fixed : AllNot (Unfixed m) c) (r : List ℕ)
         (behind : length c ≤ 8 → r ≡ c ++ replicate (8 - length c) 0) where
@@ -193,64 +122,41 @@ module _ {m : Meaning} (l : Laws m) where
       pub column_size : length c ≡ get_or ns (b - 1) 0
       column_size = long ∙ ap (λ j. get_or ns j 0) place
 
+      -- That is no more than eight.
       few : get_or ns (b - 1) 0 ≤ 8
       few = (each (b - 1) low).1
 
+      -- What is inserted is the row with zeros behind.
       padding : elems m r ≡ padded m (elems m c)
       padding = ap (elems m) (behind (omega (arith, column_size, few))) ∙ padded_numbers m c
 
+      -- It is a row of fixed elements.
       row : Row (ops m) (get_or ns (b - 1) 0) (elems m c)
       row = (length-map c (elem m) ∙ column_size, all_fixed c fixed)
 
       -- What an insertion says of the row.
       row_told : (P : List (Elem m) → Type 0) → (InForm m block.columns → Row (ops m) 8 (elems m r) → P (elems m r)) → P (padded m (elems m c))
-      row_told P k = subst P padding (k here.columns.form (subst (Row (ops m) 8) (sym padding) (column_row {f = block.columns} (get_or ns (b - 1) 0) few (block_of m gs b).columns here.fit here.columns (elems m c) row)))
+      row_told P k = subst P padding (k here.columns.form (subst (Row (ops m) 8) (sym padding) (HeldForms.column_row l {f = block.columns} (get_or ns (b - 1) 0) few (block_of m gs b).columns here.fit here.columns (elems m c) row)))
 
       -- A column hint that the form spans depends on the others.
       pub column_depends : (InForm m block.columns → Row (ops m) 8 (elems m r) → AmongRows (ops m) 8 (rows_of m block.columns) (elems m r))
           → AmongRows (ops m) (get_or ns (b - 1) 0) (block_of m gs b).columns (elems m c)
       column_depends k =
-          column_spanned (get_or ns (b - 1) 0) few (block_of m gs b).columns here.fit here.columns (elems m c) row (row_told (AmongRows (ops m) 8 (rows_of m block.columns)) k)
+          HeldForms.column_spanned l (get_or ns (b - 1) 0) few (block_of m gs b).columns here.fit here.columns (elems m c) row (row_told (AmongRows (ops m) 8 (rows_of m block.columns)) k)
 
       module _ {g : Form} (more : InForm m block.columns → Row (ops m) 8 (elems m r) → Extended m block.columns (elems m r) g) where
+        -- What an insertion that takes the row says.
         wider : Extended m block.columns (padded m (elems m c)) g
         wider = row_told (λ w. Extended m block.columns w g) more
 
         -- One that it does not span is new.
         pub column_fresh : FreshColumn m ns gs b c
-        column_fresh k = wider.new (column_among (get_or ns (b - 1) 0) few (block_of m gs b).columns here.fit here.columns (elems m c) row k)
+        column_fresh k = wider.new (HeldForms.column_among l (get_or ns (b - 1) 0) few (block_of m gs b).columns here.fit here.columns (elems m c) row k)
 
         -- A new one is held with the others.
         pub column_taken : (h' : Hints) → length ns ≤ 12 → length h.blocks ≡ 12 → Left m ns k gs → h'.blocks ≡ set h.blocks i (record { rows = block.rows; columns = g })
             → h'.rows ≡ h.rows → h'.columns ≡ h.columns + 1 → Holds m ns k h' (with_column m gs b c)
         column_taken h' many room left eb er ec =
             anew (record { rows = block.rows; columns = g }) (record { rows = (block_of m gs b).rows; columns = elems m c ∷ (block_of m gs b).columns }) h' many room
-            (record { rows = here.rows; columns = column_more (get_or ns (b - 1) 0) few (block_of m gs b).columns here.fit here.columns (elems m c) row wider; fit = (row, here.fit) })
+            (record { rows = here.rows; columns = HeldForms.column_more l (get_or ns (b - 1) 0) few (block_of m gs b).columns here.fit here.columns (elems m c) row wider; fit = (row, here.fit) })
             eb (omega (arith, er)) (omega (arith, ec)) (omega (arith, left, er, ec, held.rows, held.columns))
-
--- A code has as many points as its lengths say.
-pub places_in : (c : Code) → length (stops c.course) ≡ total (held_in c.lengths)
-places_in c = sym c.sum
-
--- There are no hints in blocks without hints.
-none_counted : (m : Meaning) (n : ℕ) → (row_count (replicate n (no_hints m)) ≡ 0) × (column_count (replicate n (no_hints m)) ≡ 0)
-none_counted m ℕ.zero = (refl, refl)
-none_counted m (suc n) = let rest = none_counted m n in (omega (arith, rest.0), omega (arith, rest.1))
-
--- Empty forms hold no hints.
-pub none_held : {f : Form} (h : Hints) → ((m : Meaning) → InForm m f × (rows_of m f ≡ [])) → h.blocks ≡ replicate 12 (record { rows = f; columns = f }) → h.rows ≡ 0 → h.columns ≡ 0
-    → (m : Meaning) (ns : List ℕ) (k : ℕ) → length ns ≤ 12 → k ≤ total ns → Holds m ns k h (replicate (length ns) (no_hints m))
-none_held {f} h empty eb er ec m ns k few most =
-    let none = none_counted m (length ns) in
-    record {
-      size = length-replicate (length ns) (no_hints m);
-      blocks = λ i p.
-          subst (λ b. BlockHolds m (get_or ns i 0) b (get_or (replicate (length ns) (no_hints m)) i (no_hints m))) (sym (ap (λ bs. get_or bs i no_block) eb ∙ get_or-replicate 12 i (record { rows = f; columns = f }) no_block (omega arith)))
-          (subst (BlockHolds m (get_or ns i 0) (record { rows = f; columns = f })) (sym (get_or-replicate (length ns) i (no_hints m) (no_hints m) p)) (record { rows = holds; columns = holds; fit = tt }));
-      rows = er ∙ sym none.0;
-      columns = ec ∙ sym none.1;
-      budget = omega (arith, most, none.0, none.1);
-    }
-  where
-    holds : FormHolds m f []
-    holds = record { form = (empty m).0; size = ap length (empty m).1; from = subst (AllByRecursion (AmongRows (ops m) 8 [])) (sym (empty m).1) tt; back = tt }

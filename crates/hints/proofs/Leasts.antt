@@ -16,9 +16,11 @@ use Rattle.skew.proofs.Sums.{cons_path}
 use Rattle.ranks.specs.Ranks.{pick, Spanned, IsRank, Weighs}
 use Rattle.ranks.specs.Reduction.{mix, Reduced}
 use Rattle.ranks.specs.RowSteps.{clear}
+use Rattle.ranks.proofs.Bases
 use Rattle.ranks.proofs.Spans
+use Rattle.ranks.proofs.Picks
 use Rattle.ranks.proofs.Mixing
-use Rattle.ranks.proofs.Inserting
+use Rattle.ranks.proofs.ClearedRow
 use Rattle.hints.specs.Splittings.{Given, Parts, Splits, Splitting, full_part}
 use Rattle.hints.specs.Least.{LeastParts, Lightest}
 use Rattle.hints.proofs.Clears
@@ -81,10 +83,10 @@ module _ {F : Type 0} {o : Ops F} (l : Laws o) where
       left = clear o w.pivots g.columns e
 
       picked : length (pick w.pivots e) ≡ length g.columns
-      picked = Mixing.length_pick w.pivots e (len ∙ sym lead.reduced.size) ∙ lead.reduced.full
+      picked = Picks.length_pick w.pivots e (len ∙ sym lead.reduced.size) ∙ lead.reduced.full
 
       left_long : length (clear o w.pivots g.columns e) ≡ length e
-      left_long = Inserting.length_clear l w.pivots g.columns e
+      left_long = ClearedRow.length_clear l w.pivots g.columns e
 
       full_long : length (map w.reduce (clear o w.pivots g.columns e)) ≡ length e
       full_long = length-map left w.reduce ∙ left_long
@@ -95,13 +97,13 @@ module _ {F : Type 0} {o : Ops F} (l : Laws o) where
       adds : e ≡ plus o (map w.reduce left) (plus o (map (λ x. x + neg (w.reduce x)) left) taken)
       adds =
           sym (sym (Sums.plus_assoc l (map w.reduce left) (map (λ x. x + neg (w.reduce x)) left) taken) ∙ ap (λ v. plus o v taken) (back_together w.reduce left)
-          ∙ Inserting.back_on l e taken (sym (Mixing.length_mix l (length e) g.columns (pick w.pivots e))))
+          ∙ ClearedRow.back_on l e taken (sym (Mixing.length_mix l (length e) g.columns (pick w.pivots e))))
 
       lighter : (p : Parts F) (r s : ℕ) → Splits o g e p → IsRank o (map w.reduce (clear o w.pivots g.columns e)) r → IsRank o p.full s → r ≤ s
       lighter p r s P R S =
-          let E = Spans.rank_spans l p.full s S in
+          let E = Bases.rank_spans l p.full s S in
           let all = Clears.left_over l w.reduce L n w.pivots g e p E.0 len lead.reduced lead.reduces.kills P E.2 in
-          let few = Spans.exchange l (pick R.0.0 (map w.reduce left)) (map w.reduce E.0) R.0.1 (Spans.all_pick l (Spanned o (map w.reduce E.0)) R.0.0 (map w.reduce left) all) in
+          let few = Bases.exchange l (pick R.0.0 (map w.reduce left)) (map w.reduce E.0) R.0.1 (Spans.all_pick l (Spanned o (map w.reduce E.0)) R.0.0 (map w.reduce left) all) in
           omega (arith, few, R.0.2, E.1, length-map E.0 w.reduce)
 
   -- Least parts in every block are a splitting.

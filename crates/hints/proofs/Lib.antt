@@ -7,6 +7,11 @@ pub mod Narrow
 pub mod Reading
 pub mod Rowwise
 pub mod BlockSplits
+pub mod HeldCodes
+pub mod FrontBlock
 pub mod Parting
 pub mod Padding
+pub mod HeldForms
+pub mod CodePlaces
+pub mod EmptyHints
 pub mod Judging

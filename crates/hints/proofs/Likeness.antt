@@ -6,7 +6,8 @@ use Rattle.std.specs.List.{AllByRecursion}
 use Rattle.fields.specs.Field.{Ops, Laws, Fixed}
 use Rattle.ranks.specs.Reduction.{mix, Row, AmongRows}
 use Rattle.ranks.proofs.Spans
-use Rattle.ranks.proofs.Mixing
+use Rattle.ranks.proofs.Bases
+use Rattle.ranks.proofs.RowSpans
 use Rattle.hints.specs.Splittings.{Given, Parts, Splits, Splitting, IndependentHints, Alike, Everywhere}
 use Rattle.hints.specs.Least.{LeastParts}
 use Rattle.hints.proofs.FreeRows
@@ -47,7 +48,7 @@ module _ {F : Type 0} {o : Ops F} (l : Laws o) where
     where
       again : (ys : List F) × (length ys ≡ length h.columns) × (AllByRecursion (Fixed o) P.columns.0 → AllByRecursion (Fixed o) ys) × (mix o (length e) g.columns P.columns.0 ≡ mix o (length e) h.columns ys)
       again =
-          Mixing.mix_again l (length e) g.columns h.columns P.columns.0 P.columns.1
+          RowSpans.mix_again l (length e) g.columns h.columns P.columns.0 P.columns.1
           (subst (λ i. AllByRecursion (Row o i) g.columns) (sym len) k.fit)
           (subst (λ i. AllByRecursion (AmongRows o i h.columns) g.columns) (sym len) k.alike.columns_back)
 
@@ -74,8 +75,8 @@ module _ {F : Type 0} {o : Ops F} (l : Laws o) where
   pub same_counts : (n : ℕ) (g h : Given F) → IndependentHints o n g → IndependentHints o n h → Alike o n g h
       → (length g.rows ≡ length h.rows) × (length g.columns ≡ length h.columns)
   same_counts n g h i j a =
-      let up : length g.rows ≤ length h.rows = Spans.exchange l g.rows h.rows i.rows a.rows_back in
-      let down : length h.rows ≤ length g.rows = Spans.exchange l h.rows g.rows j.rows a.rows in
+      let up : length g.rows ≤ length h.rows = Bases.exchange l g.rows h.rows i.rows a.rows_back in
+      let down : length h.rows ≤ length g.rows = Bases.exchange l h.rows g.rows j.rows a.rows in
       let wide : length g.columns ≤ length h.columns = FreeRows.rows_few l n h.columns g.columns i.fit i.columns a.columns_back in
       let narrow : length h.columns ≤ length g.columns = FreeRows.rows_few l n g.columns h.columns j.fit j.columns a.columns in
       (omega arith, omega arith)

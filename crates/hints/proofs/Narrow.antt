@@ -7,10 +7,11 @@ use Rattle.std.proofs.Math.Seq.{drop-nil, take-nil}
 use Rattle.std.proofs.lemmas.List.{length-take-le, take_at, drop_at, take-map}
 use Rattle.std.specs.List.{AllByRecursion}
 use Rattle.fields.specs.Field.{Ops, Laws, Zero, Fixed, plus, comb}
+use Rattle.fields.specs.Inverses
 use Rattle.fields.specs.Basics
 use Rattle.fields.specs.Basics.{ring}
 use Rattle.skew.specs.Products.{coef}
-use Rattle.skew.proofs.Multiplication
+use Rattle.skew.proofs.Coefficients
 use Rattle.skew.proofs.Sums.{cons_path}
 use Rattle.ranks.specs.Ranks.{pick}
 use Rattle.ranks.specs.Reduction.{count, heads, tails, mix, Row, AmongRows, unit, Pivots, Reduced}
@@ -62,7 +63,7 @@ module _ {F : Type 0} {o : Ops F} (l : Laws o) where
   -- Rows of zeros: their first entries.
   zero_heads : (hs : List (List F)) → AllByRecursion (Late o 0) hs → AllByRecursion (Zero o) (heads o hs)
   zero_heads [] k = tt
-  zero_heads (h ∷ hs) k = (Multiplication.coef_of l h k.0 0, zero_heads hs k.1)
+  zero_heads (h ∷ hs) k = (Coefficients.coef_of l h k.0 0, zero_heads hs k.1)
 
   -- And what follows.
   zero_tails : (hs : List (List F)) → AllByRecursion (Late o 0) hs → AllByRecursion (Late o 0) (tails o hs)
@@ -122,7 +123,7 @@ module _ {F : Type 0} {o : Ops F} (l : Laws o) where
   narrow_count : (n j : ℕ) (marks : List Bool) (hs : List (List F)) → Pivots o j marks hs → j +ℕ count marks ≡ length hs → AllByRecursion (Late o n) hs → count (take n marks) ≡ count marks
   narrow_count ℕ.zero j [] hs h c k = refl
   narrow_count ℕ.zero j (true ∷ marks) hs h c k =
-      absurd (Basics.one_zero l (sym (unit_one (length hs) j (omega arith)) ∙ ap (λ w. coef o w j) (sym h.0) ∙ Multiplication.coef_of l (heads o hs) (zero_heads hs k) j))
+      absurd (Inverses.one_zero l (sym (unit_one (length hs) j (omega arith)) ∙ ap (λ w. coef o w j) (sym h.0) ∙ Coefficients.coef_of l (heads o hs) (zero_heads hs k) j))
   narrow_count ℕ.zero j (false ∷ marks) hs h c k = narrow_count ℕ.zero j marks (tails o hs) h (c ∙ sym (length-map hs (drop 1))) (zero_tails hs k)
   narrow_count (suc n) j [] hs h c k = refl
   narrow_count (suc n) j (true ∷ marks) hs h c k = ap suc (narrow_count n (suc j) marks (tails o hs) h.1 (omega (arith, c, length-map hs (drop 1))) (late_tails n hs k))

@@ -13,8 +13,10 @@ use Rattle.skew.proofs.Everywhere.{all_append}
 use Rattle.skew.proofs.Sums.{cons_path}
 use Rattle.ranks.specs.Reduction.{mix, Row, AmongRows}
 use Rattle.ranks.proofs.Mixing
-use Rattle.ranks.proofs.Ranking
+use Rattle.ranks.proofs.PaddedDigits
+use Rattle.ranks.proofs.DigitSpans
 use Rattle.hints.specs.Holdings.{padded}
+use Rattle.codes.proofs.Interpolants
 
 module _ {F : Type 0} (o : Ops F) where
   abbrev pub behind : ℕ → List F → List F
@@ -23,17 +25,12 @@ module _ {F : Type 0} (o : Ops F) where
 module _ {F : Type 0} {o : Ops F} (l : Laws o) where
   open o use {zero}
 
-  -- They are zeros.
-  pub zeros_zero : (k : ℕ) → AllByRecursion (Zero o) (replicate k zero)
-  zeros_zero ℕ.zero = tt
-  zeros_zero (suc k) = (refl, zeros_zero k)
-
   module _ (n k : ℕ) where
     -- A row of n places becomes one of n + k.
     pub row_behind : (h : List F) → Row o n h → Row o (n +ℕ k) (behind o k h)
     row_behind h r = (
       length-append h (replicate k zero) ∙ omega (arith, r.0, length-replicate k zero),
-      all_append (Fixed o) h (replicate k zero) r.1 (Ranking.fixed_zeros l (replicate k zero) (zeros_zero k)),
+      all_append (Fixed o) h (replicate k zero) r.1 (PaddedDigits.fixed_zeros l (replicate k zero) (Interpolants.zeros_null l k)),
     )
 
     -- So each of a list.
@@ -44,16 +41,16 @@ module _ {F : Type 0} {o : Ops F} (l : Laws o) where
     -- Sums of rows with zeros behind.
     pub mix_behind : (hs : List (List F)) (xs : List F) → length xs ≡ length hs → AllByRecursion (λ h. length h ≡ n) hs → mix o (n +ℕ k) (map (behind o k) hs) xs ≡ behind o k (mix o n hs xs)
     mix_behind [] [] e r =
-        Ranking.same_zeros l (mix o (n +ℕ k) [] []) (behind o k (mix o n [] []))
+        DigitSpans.same_zeros l (mix o (n +ℕ k) [] []) (behind o k (mix o n [] []))
         (Mixing.length_mix l (n +ℕ k) [] [] ∙ sym (length-append (mix o n [] []) (replicate k zero) ∙ omega (arith, Mixing.length_mix l n [] [], length-replicate k zero)))
-        (Mixing.mix_none l (n +ℕ k) []) (all_append (Zero o) (mix o n [] []) (replicate k zero) (Mixing.mix_none l n []) (zeros_zero k))
+        (Mixing.mix_none l (n +ℕ k) []) (all_append (Zero o) (mix o n [] []) (replicate k zero) (Mixing.mix_none l n []) (Interpolants.zeros_null l k))
     mix_behind [] (x ∷ xs) e r = absurd (omega arith)
     mix_behind (h ∷ hs) [] e r = absurd (omega arith)
     mix_behind (h ∷ hs) (x ∷ xs) e r =
         Mixing.mix_cons l (n +ℕ k) (behind o k h) (map (behind o k) hs) x xs (length-append h (replicate k zero) ∙ omega (arith, r.0, length-replicate k zero))
         ∙ ap (plus o (scale o x (behind o k h))) (mix_behind hs xs (omega arith) r.1)
-        ∙ ap (λ w. plus o w (behind o k (mix o n hs xs))) (sym (Ranking.scale_behind l x h (replicate k zero) (zeros_zero k)))
-        ∙ sym (Ranking.plus_behind l (scale o x h) (mix o n hs xs) (replicate k zero) (length-map h (o.mul x) ∙ r.0 ∙ sym (Mixing.length_mix l n hs xs)) (zeros_zero k))
+        ∙ ap (λ w. plus o w (behind o k (mix o n hs xs))) (sym (PaddedDigits.scale_behind l x h (replicate k zero) (Interpolants.zeros_null l k)))
+        ∙ sym (PaddedDigits.plus_behind l (scale o x h) (mix o n hs xs) (replicate k zero) (length-map h (o.mul x) ∙ r.0 ∙ sym (Mixing.length_mix l n hs xs)) (Interpolants.zeros_null l k))
         ∙ ap (behind o k) (sym (Mixing.mix_cons l n h hs x xs r.0))
 
     -- The lengths of rows.
@@ -69,7 +66,7 @@ module _ {F : Type 0} {o : Ops F} (l : Laws o) where
     pub among_before : (hs : List (List F)) (h : List F) → AllByRecursion (Row o n) hs → length h ≡ n → AmongRows o (n +ℕ k) (map (behind o k) hs) (behind o k h) → AmongRows o n hs h
     among_before hs h r e s =
         let size : length s.0 ≡ length hs = s.1 ∙ length-map hs (behind o k) in
-        (s.0, size, s.2, Ranking.before_same l h (mix o n hs s.0) (replicate k zero) (e ∙ sym (Mixing.length_mix l n hs s.0)) (s.3 ∙ mix_behind hs s.0 size (lengths_of hs r)))
+        (s.0, size, s.2, PaddedDigits.before_same l h (mix o n hs s.0) (replicate k zero) (e ∙ sym (Mixing.length_mix l n hs s.0)) (s.3 ∙ mix_behind hs s.0 size (lengths_of hs r)))
 
 -- Numbers with zeros behind, in elements.
 pub padded_numbers : (m : Meaning) (e : List ℕ) → elems m (e ++ replicate (8 - length e) 0) ≡ padded m (elems m e)

@@ -2,16 +2,15 @@
 --
 --   Parted m ns gs d i at p     p has the parts of the first i blocks, which end at the place `at`: lightest parts of the other blocks behind them
 --                               make lightest parts of all
-use Rattle.std.proofs.Common.{◌≡◌, ℕ, suc, ◌+◌, ◌<◌, ◌≤◌, List, [], ◌∷◌, ◌++◌, length, get_or, take, drop, sym, refl, ap, ◌∙◌, subst, add_assoc, add-one, arith, length-append, length-drop, drop-cons}
-use Rattle.std.proofs.lemmas.List.{length-map}
-use Rattle.std.proofs.lemmas.List.{append-nil, append_assoc, map-append, take_all, take_at, take-map, drop_at, drop_all, drop-drop, drop-map, length-take-le}
+--   PartedAt m ns gs d i rest p so it is where what stands behind the first i blocks is `rest`
+use Rattle.std.proofs.Common.{◌≡◌, ℕ, suc, ◌+◌, ◌<◌, ◌≤◌, List, [], ◌∷◌, ◌++◌, length, get_or, take, drop, sym, refl, ap, ◌∙◌, subst, add_assoc, add-one, arith, length-drop, drop-cons}
+use Rattle.std.proofs.lemmas.List.{length-map, append-nil, append_assoc, take-map, drop_all, drop-drop, drop-map, length-take-le}
 use Rattle.std.specs.List.{AllByRecursion}
 use Rattle.fields.specs.Field as field
 use Rattle.fields.specs.Meaning.{Meaning, Laws}
-use Rattle.fields.specs.Elements.{Elem, elem, elems, codes, ops}
+use Rattle.fields.specs.Elements.{Elem, elem, elems, ops}
 use Rattle.fields.proofs.Carrier
 use Rattle.skew.specs.Polynomials.{Codes}
-use Rattle.skew.proofs.Sums.{cons_path}
 use Rattle.ranks.specs.Ranks.{total, cut}
 use Rattle.ranks.proofs.Mixing
 use Rattle.codes.specs.Holdings.{held}
@@ -23,11 +22,9 @@ use Rattle.hints.specs.Holdings.{BlockHolds, Holds, no_block, no_hints}
 use Rattle.hints.specs.Least.{LeastParts, Lightest}
 use Rattle.hints.specs.Outcomes.{parts_from, parts_of, BlockSplit, Divided, LeastAnswer}
 use Rattle.hints.proofs.Leasts
-
--- A symbol list that holds the codes of these elements.
-pub record Held (m : Meaning) (xs : List (Elem m)) (at : ℕ) (s : List ℕ) : Type 0 where
-  pub is : s ≡ codes xs
-  pub size : length xs ≡ at
+use Rattle.hints.proofs.HeldCodes
+use Rattle.hints.proofs.HeldCodes.{Held}
+use Rattle.hints.proofs.FrontBlock.{front_block}
 
 pub record Parted (m : Meaning) (ns : List ℕ) (gs : List (Given (Elem m))) (d : List ℕ) (i at : ℕ) (p : PartsCodes) : Type 0 where
   pub ends : at + total (drop i ns) ≡ length d
@@ -44,22 +41,6 @@ pub record PartedAt (m : Meaning) (ns : List ℕ) (gs : List (Given (Elem m))) (
   pub behind : rest ≡ drop at d
   pub parted : Parted m ns gs d i at p
 
--- Parts by their words.
-abbrev parts : {F : Type 0} → List F → List F → List F → Parts F
-parts x y z = record { full = x; row = y; column = z }
-
--- A block before others.
-front_block : {F : Type 0} {o : field.Ops F} (g : Given F) (gs : List (Given F)) (n : ℕ) (ns : List ℕ) (v : List F) (p : Parts F) (f r c : List F)
-    → length p.full ≡ n → length p.row ≡ n → length p.column ≡ n → LeastParts o g (take n v) p → Lightest o gs (cut ns (drop n v)) (parts_from ns f r c)
-    → Lightest o (g ∷ gs) (cut (n ∷ ns) v) (parts_from (n ∷ ns) (p.full ++ f) (p.row ++ r) (p.column ++ c))
-front_block {F} {o} g gs n ns v p f r c ef er ec k h =
-    subst (λ ws. Lightest o (g ∷ gs) (cut (n ∷ ns) v) ws) (sym same) (k, h)
-  where
-    same : parts_from (n ∷ ns) (p.full ++ f) (p.row ++ r) (p.column ++ c) ≡ p ∷ parts_from ns f r c
-    same =
-        cons_path (ap (λ w. parts w (take n (p.row ++ r)) (take n (p.column ++ c))) (take_at p.full f n ef) ∙ ap (λ w. parts p.full w (take n (p.column ++ c))) (take_at p.row r n er) ∙ ap (parts p.full p.row) (take_at p.column c n ec))
-        (ap (λ w. parts_from ns w (drop n (p.row ++ r)) (drop n (p.column ++ c))) (drop_at p.full f n ef) ∙ ap (λ w. parts_from ns f w (drop n (p.column ++ c))) (drop_at p.row r n er) ∙ ap (parts_from ns f r) (drop_at p.column c n ec))
-
 -- What is at a place, where it holds of all.
 pub all_at : (P : ℕ → Type 0) (ns : List ℕ) (i : ℕ) → i < length ns → AllByRecursion P ns → P (get_or ns i 0)
 all_at P [] i lt k = absurd (omega arith)
@@ -68,26 +49,8 @@ all_at P (n ∷ ns) (suc i) lt k = all_at P ns i (omega arith) k.1
 
 module _ {m : Meaning} (l : Laws m) where
   -- The laws of the elements.
-  laws : field.Laws (ops m)
+  abbrev laws : field.Laws (ops m)
   laws = Carrier.ops_laws l
-
-  -- Codes behind codes.
-  held_more : (xs ys : List (Elem m)) {at n : ℕ} {s t : List ℕ} → Held m xs at s → length ys ≡ n → at + n ≤ 24 → t ≡ take 24 (s ++ codes ys) → Held m (xs ++ ys) (at + n) t
-  held_more xs ys {at} {n} {s} {t} k ey le et = record {
-    is = et ∙ ap (λ w. take 24 (w ++ codes ys)) k.is ∙ ap (take 24) (sym (map-append (λ x. x.code) xs ys)) ∙ take_all 24 (codes (xs ++ ys)) (omega (arith, length-map (xs ++ ys) (λ x. x.code), long));
-    size = long;
-  }
-    where
-      long : length (xs ++ ys) ≡ at + n
-      long = length-append xs ys ∙ omega (arith, k.size)
-
-  -- Codes of elements are codes.
-  held_codes : {xs : List (Elem m)} {at : ℕ} {s : List ℕ} → Held m xs at s → (Codes m s) × (length s ≡ at) × (elems m s ≡ xs)
-  held_codes {xs} {at} {s} k = (
-    ap (λ w. codes (elems m w)) k.is ∙ ap codes (Carrier.elems_codes xs) ∙ sym k.is,
-    ap length k.is ∙ length-map xs (λ x. x.code) ∙ k.size,
-    ap (elems m) k.is ∙ Carrier.elems_codes xs,
-  )
 
   -- No block yet.
   parted_starts : {ns : List ℕ} {gs : List (Given (Elem m))} {d : List ℕ} {p : PartsCodes} → held p.full ≡ [] → held p.row ≡ [] → held p.column ≡ [] → Divided ns d → Parted m ns gs d 0 0 p
@@ -111,9 +74,9 @@ module _ {m : Meaning} (l : Laws m) where
   parted_block {ns} {gs} {d} {i} {at} {p} {q} {n} {e} v eg lt en ee s k = record {
     ends = ap (λ j. at + j + total (drop (i + 1) ns)) en ∙ room;
     so_far = record { full = k.so_far.full ++ s.parts.full; row = k.so_far.row ++ s.parts.row; column = k.so_far.column ++ s.parts.column };
-    full = held_more k.so_far.full s.parts.full k.full full_size fits s.full;
-    row = held_more k.so_far.row s.parts.row k.row row_size fits s.row;
-    column = held_more k.so_far.column s.parts.column k.column column_size fits s.column;
+    full = HeldCodes.held_more l k.so_far.full s.parts.full k.full full_size fits s.full;
+    row = HeldCodes.held_more l k.so_far.row s.parts.row k.row row_size fits s.row;
+    column = HeldCodes.held_more l k.so_far.column s.parts.column k.column column_size fits s.column;
     rest = λ f r c h.
         subst (λ ws. Lightest (ops m) gs (cut ns (elems m d)) ws) (sym (joined f r c))
         (k.rest (s.parts.full ++ f) (s.parts.row ++ r) (s.parts.column ++ c) (here f r c h));
@@ -186,13 +149,13 @@ module _ {m : Meaning} (l : Laws m) where
   }
     where
       F : (Codes m (held p.full)) × (length (held p.full) ≡ at) × (elems m (held p.full) ≡ k.so_far.full)
-      F = held_codes k.full
+      F = HeldCodes.held_codes l k.full
 
       R : (Codes m (held p.row)) × (length (held p.row) ≡ at) × (elems m (held p.row) ≡ k.so_far.row)
-      R = held_codes k.row
+      R = HeldCodes.held_codes l k.row
 
       C : (Codes m (held p.column)) × (length (held p.column) ≡ at) × (elems m (held p.column) ≡ k.so_far.column)
-      C = held_codes k.column
+      C = HeldCodes.held_codes l k.column
 
       all : at ≡ length d
       all = omega (arith, k.ends, ap total (drop_all i ns le))

@@ -17,7 +17,8 @@ use Rattle.ranks.specs.Ranks.{Spanned}
 use Rattle.ranks.specs.Reduction.{Row, AmongRows, Reduced, marks_of, rows_of, eight}
 use Rattle.ranks.specs.RowSteps.{clear}
 use Rattle.ranks.proofs.Spans
-use Rattle.ranks.proofs.Ranking
+use Rattle.ranks.proofs.PaddedDigits
+use Rattle.ranks.proofs.DigitSpans
 use Rattle.hints.specs.declared.block.BlockHints.{BlockHints}
 use Rattle.hints.specs.Splittings.{Given}
 use Rattle.hints.specs.Holdings.{padded, BlockHolds}
@@ -47,7 +48,7 @@ module _ {m : Meaning} (l : Laws m) where
   from_eight : (x : Elem m) → from_digits m (eight m x) ≡ x
   from_eight x =
       let D = Digits.digits_linear l in
-      ap (from_digits m) (Ranking.eight_is l x) ∙ comb_front (digits_of m x) (Ranking.behind l) (basis_of m) (D.digits_length x) ∙ D.digits_give x
+      ap (from_digits m) (PaddedDigits.eight_is l x) ∙ comb_front (digits_of m x) (PaddedDigits.behind l) (basis_of m) (D.digits_length x) ∙ D.digits_give x
 
   -- So has each of a list.
   all_from_eight : (xs : List (Elem m)) → map (from_digits m) (map (eight m) xs) ≡ xs
@@ -77,7 +78,7 @@ module _ {m : Meaning} (l : Laws m) where
   module _ {n : ℕ} {b : BlockHints} {g : Given (Elem m)} (le : n ≤ 8) (k : BlockHolds m n b g) where
     -- The rows of digits are those of elements that the row hints span.
     lifted : (es : List (Elem m)) × (map (eight m) es ≡ rows_of m b.rows) × AllByRecursion (Spanned (ops m) g.rows) es
-    lifted = Ranking.lifted laws 8 (eight m) (Ranking.numerals l) g.rows (rows_of m b.rows) k.rows.from
+    lifted = DigitSpans.lifted laws 8 (eight m) (PaddedDigits.numerals l) g.rows (rows_of m b.rows) k.rows.from
 
     -- The row hints that are shown are these elements.
     rows_are : (shown m n b).rows ≡ lifted.0
@@ -89,15 +90,15 @@ module _ {m : Meaning} (l : Laws m) where
 
     -- Elements are reduced by them.
     row_reduces : Reduces (ops m) (reduced_by m b.rows) (shown m n b).rows
-    row_reduces = subst (λ T. Reduces (ops m) T (shown m n b).rows) (fun_ext (λ x. sym (same x))) (ByDigits.by_digits laws 8 (eight m) (Ranking.numerals l) (marks_of b.rows) (shown m n b).rows formed)
+    row_reduces = subst (λ T. Reduces (ops m) T (shown m n b).rows) (fun_ext (λ x. sym (same x))) (ByDigits.by_digits laws 8 (eight m) (PaddedDigits.numerals l) (marks_of b.rows) (shown m n b).rows formed)
       where
         formed : Reduced (ops m) 8 (marks_of b.rows) (map (eight m) (shown m n b).rows)
         formed = subst (Reduced (ops m) 8 (marks_of b.rows)) (sym digits_are) k.rows.form.reduced
 
-        same : (x : Elem m) → reduced_by m b.rows x ≡ (ops m).add x ((ops m).neg (ByDigits.off laws 8 (eight m) (Ranking.numerals l) (marks_of b.rows) (shown m n b).rows formed x))
+        same : (x : Elem m) → reduced_by m b.rows x ≡ (ops m).add x ((ops m).neg (ByDigits.off laws 8 (eight m) (PaddedDigits.numerals l) (marks_of b.rows) (shown m n b).rows formed x))
         same x =
             ap (λ w. from_digits m (clear (ops m) (marks_of b.rows) w (eight m x))) (sym digits_are)
-            ∙ ap (from_digits m) (sym (ByDigits.clear_digits laws 8 (eight m) (Ranking.numerals l) (marks_of b.rows) (shown m n b).rows formed x)) ∙ from_eight _
+            ∙ ap (from_digits m) (sym (ByDigits.clear_digits laws 8 (eight m) (PaddedDigits.numerals l) (marks_of b.rows) (shown m n b).rows formed x)) ∙ from_eight _
 
     -- The rows of the column hints are zero behind the block.
     columns_late : AllByRecursion (Late (ops m) n) (rows_of m b.columns)
@@ -111,7 +112,7 @@ module _ {m : Meaning} (l : Laws m) where
     pub block_alike : Like (ops m) n (shown m n b) g
     block_alike = record {
       alike = record {
-        rows = subst (λ es. AllByRecursion (Spanned (ops m) es) g.rows) (sym rows_are) (Ranking.all_down laws 8 (eight m) (Ranking.numerals l) lifted.0 g.rows (subst (λ rs. AllByRecursion (AmongRows (ops m) 8 rs) (map (eight m) g.rows)) (sym lifted.1) k.rows.back));
+        rows = subst (λ es. AllByRecursion (Spanned (ops m) es) g.rows) (sym rows_are) (DigitSpans.all_down laws 8 (eight m) (PaddedDigits.numerals l) lifted.0 g.rows (subst (λ rs. AllByRecursion (AmongRows (ops m) 8 rs) (map (eight m) g.rows)) (sym lifted.1) k.rows.back));
         rows_back = subst (AllByRecursion (Spanned (ops m) g.rows)) (sym rows_are) lifted.2;
         columns = subst (AllByRecursion (AmongRows (ops m) n (shown m n b).columns)) (padded_front n g.columns k.fit) (Narrow.all_among_take laws n 8 (rows_of m b.columns) (map (padded m) g.columns) le k.columns.back);
         columns_back = subst (λ hs. AllByRecursion (AmongRows (ops m) n hs) (shown m n b).columns) (padded_front n g.columns k.fit) (Narrow.all_among_take laws n 8 (map (padded m) g.columns) (rows_of m b.columns) le k.columns.from);

@@ -9,7 +9,7 @@ use Rattle.fields.specs.Elements.{Elem, elem, elems, codes, ops}
 use Rattle.fields.proofs.Carrier
 use Rattle.fields.specs.Rows
 use Rattle.skew.specs.Products.{coef}
-use Rattle.skew.proofs.Multiplication
+use Rattle.skew.proofs.Coefficients
 use Rattle.ranks.specs.Reduction.{marks_of, rows_of, eight}
 use Rattle.ranks.specs.RowSteps.{clear}
 use Rattle.ranks.specs.declared.rows.Form.{Form}
@@ -80,7 +80,7 @@ module _ {m : Meaning} (l : Laws m) where
       here : (i : ℕ) → i < 8 → elem m (get_or out i 0) ≡ coef (ops m) (minus a b) i
       here i lt =
           Carrier.sums m (get_or a i 0) (m.opposite (clip m (get_or b i 0))) (k i lt) ∙ ap ((ops m).add (elem m (get_or a i 0))) (Carrier.negates m (get_or b i 0) refl ∙ sym (second i lt))
-          ∙ ap (λ w. (ops m).add w (coef (ops m) (map (ops m).neg (elems m b)) i)) (Carrier.elem_at m a i) ∙ sym (Multiplication.coef_plus laws (elems m a) (map (ops m).neg (elems m b)) i)
+          ∙ ap (λ w. (ops m).add w (coef (ops m) (map (ops m).neg (elems m b)) i)) (Carrier.elem_at m a i) ∙ sym (Coefficients.coef_plus laws (elems m a) (map (ops m).neg (elems m b)) i)
 
       there : (i : ℕ) → i < 8 → get_or out i 0 ≡ get_or (codes (minus a b)) i 0
       there i lt =

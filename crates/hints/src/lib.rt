@@ -13,4 +13,4 @@ pub use block::BlockHints;
 pub use holder::Hints;
 pub use not_taken::NotTaken;
 pub use parts::Parts;
-pub use splitting::{element_of, least_splitting, row_of};
+pub use splitting::{element_of, least_splitting, padded_row};

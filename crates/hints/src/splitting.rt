@@ -1,5 +1,5 @@
 // The splitting of a difference with a full part of least weight.
-ghost use Rattle.std.specs.Prelude.{◌≡◌, ℕ, ◌-◌, ◌≤◌, List, ◌++◌, map, length, replicate};
+ghost use Rattle.std.specs.Prelude.{◌≡◌, ℕ, ◌-◌, ◌<◌, ◌≤◌, List, ◌++◌, map, length, replicate, get_or, slice_index};
 ghost use Rattle.fields.specs.Field.{plus};
 ghost use Rattle.fields.specs.Elements.{Elem, elem, codes, ops};
 ghost use Rattle.ranks.specs.Reduction.{row as row_of, InForm};
@@ -58,8 +58,9 @@ fn less<K: Kind>(kind: &K, a: &Row, b: &Row) -> Row
 }
 
 // At most eight symbols, with zeros behind; no more than eight are looked at.
-pub fn row_of(symbols: &[u8]) -> Row
-    ensures { let e = symbols.now in (length e ≤ 8 → result.cells ≡ e ++ replicate (8 - length e) 0) }
+pub fn padded_row(symbols: &[u8]) -> Row
+    ensures few { let e = symbols.now in (length e ≤ 8 → result.cells ≡ e ++ replicate (8 - length e) 0) }
+    ensures each { (i : ℕ) → i < 8 → slice_index result.cells i ≡ get_or symbols.now i 0 }
 {
     Row::from_fn(|i| symbols.get(i).copied().unwrap_or(0))
 }
@@ -71,7 +72,7 @@ fn split_block<K: Kind>(kind: &K, hints: &BlockHints, e: &[u8], parts: &mut Part
         ((g : Given (Elem m)) → BlockHolds m (length e) hints.now g → BlockSplit m e g parts.old parts.new) }
 {
     let n = e.len();
-    let start = row_of(e);
+    let start = padded_row(e);
     let left = cleared(kind, &hints.columns, &start);
     let full = reduced_row(kind, &hints.rows, &left);
     let row = less(kind, &left, &full);

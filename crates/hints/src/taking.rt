@@ -14,7 +14,7 @@ ghost use Rattle.hints.specs.Taking.{There, Unfixed, RowJudged, ColumnJudged, wi
 use super::block::BlockHints;
 use super::holder::Hints;
 use super::not_taken::NotTaken;
-use super::splitting::row_of;
+use super::splitting::padded_row;
 use codes::Code;
 use fields::Kind;
 use ranks::{Form, Row};
@@ -133,7 +133,7 @@ impl Hints {
         if let Some(i) = first_unfixed(kind, coefficients) {
             return Err(NotTaken::NoCode(i));
         }
-        let row = row_of(coefficients);
+        let row = padded_row(coefficients);
         let mut entry = self.blocks[at];
         entry.columns = extended(kind, &entry.columns, &row)?;
         if self.spent(code) {

@@ -1,6 +1,6 @@
 -- The text of what a job comes to.
 --
---   Outcome       what was recovered, as lists, or the refusal
+--   Found         what was recovered, as lists; found_of and outcome_of make it of the program's values
 --   spaced n      a space and the number in decimal
 --   numbers xs    each number in decimal, a space before each
 --   line name xs  a line: its name and the numbers

@@ -1,4 +1,4 @@
-// The reader of jobs. Each byte is judged when it is read, from the front.
+// The reader of jobs. Counts, lengths and blocks are judged when they are read, from the front; what they count is judged in the run.
 ghost use Rattle.std.specs.Prelude.{◌≡◌, ◌≤◌, List, [], ◌∷◌, length, MatchResult};
 ghost use Rattle.sheets.specs.declared.faults.Reason.TheVariants.{MissingByte};
 ghost use Rattle.jobs.specs.Jobs.{at_job, Refused};

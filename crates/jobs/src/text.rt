@@ -14,6 +14,13 @@ pub const ROOM: usize = 1024;
 
 pub type Text = Few<u8, ROOM>;
 
+// The end of a line.
+fn push_end(out: &mut Text)
+    ensures { held out.new ≡ take 1024 (held out.old ++ codes "\n") }
+{
+    out.append(b"\n");
+}
+
 // A space and a number.
 fn push_number(out: &mut Text, n: usize)
     ensures text { held out.new ≡ take 1024 (held out.old ++ spaced n) }
@@ -51,7 +58,7 @@ fn push_line(out: &mut Text, name: &[u8], symbols: &[u8])
 {
     out.append(name);
     push_symbols(out, symbols);
-    out.append(b"\n");
+    push_end(out);
 }
 
 // A line with a count before its symbols.
@@ -62,7 +69,7 @@ fn push_counted(out: &mut Text, name: &[u8], count: usize, symbols: &[u8])
     out.append(name);
     push_number(out, count);
     push_symbols(out, symbols);
-    out.append(b"\n");
+    push_end(out);
 }
 
 // The line of a refusal.
@@ -76,7 +83,7 @@ fn push_fault(out: &mut Text, fault: Fault)
     push_number(out, usize::from(fault.layer_number()));
     out.append(b" place");
     push_number(out, fault.place);
-    out.append(b"\n");
+    push_end(out);
 }
 
 // The text of an outcome.

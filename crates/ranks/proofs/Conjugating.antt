@@ -10,6 +10,7 @@ use Rattle.fields.specs.Field as field
 use Rattle.fields.specs.Meaning.{Meaning, Laws, clip}
 use Rattle.fields.specs.Elements.{Elem, elem, ops}
 use Rattle.fields.specs.Basics
+use Rattle.fields.specs.Inverses
 use Rattle.fields.proofs.Carrier
 use Rattle.skew.specs.Roots.{Conjugate}
 use Rattle.skew.proofs.Growing
@@ -56,7 +57,7 @@ module _ {m : Meaning} (l : Laws m) where
         divided : (ops m).mul ((ops m).mul ((ops m).twist (elem m c)) (elem m a)) ((ops m).inv (elem m c)) ≡ elem m b
         divided =
             ap (λ x. (ops m).mul x ((ops m).inv (elem m c))) (sym with_a ∙ ap (elem m) e ∙ with_b)
-            ∙ Basics.mul_assoc laws (elem m b) (elem m c) ((ops m).inv (elem m c)) ∙ ap ((ops m).mul (elem m b)) (Basics.mul_inv laws (elem m c) n) ∙ Basics.mul_one laws (elem m b)
+            ∙ Basics.mul_assoc laws (elem m b) (elem m c) ((ops m).inv (elem m c)) ∙ ap ((ops m).mul (elem m b)) (Inverses.mul_inv laws (elem m c) n) ∙ Basics.mul_one laws (elem m b)
 
   -- Two conjugate elements are made so by a code from 1 on.
   made_by : (a b : ℕ) → Conjugate (ops m) (elem m a) (elem m b) → (c : ℕ) × (1 ≤ c) × (c < m.size) × Meets m a b c
@@ -68,7 +69,7 @@ module _ {m : Meaning} (l : Laws m) where
       made : (ops m).mul ((ops m).twist k.0) (elem m a) ≡ (ops m).mul (elem m b) k.0
       made =
           sym (ap (λ x. (ops m).mul x k.0) k.2 ∙ Basics.mul_assoc laws ((ops m).mul ((ops m).twist k.0) (elem m a)) ((ops m).inv k.0) k.0
-          ∙ ap ((ops m).mul ((ops m).mul ((ops m).twist k.0) (elem m a))) (Basics.inv_mul laws k.0 k.1) ∙ Basics.mul_one laws ((ops m).mul ((ops m).twist k.0) (elem m a)))
+          ∙ ap ((ops m).mul ((ops m).mul ((ops m).twist k.0) (elem m a))) (Inverses.inv_mul laws k.0 k.1) ∙ Basics.mul_one laws ((ops m).mul ((ops m).twist k.0) (elem m a)))
 
   -- What the search answers.
   pub searched : (a b : ℕ) (r : Bool) → MatchBool r ((i : ℕ) × (i < length (tried m)) × HoldsAt (Meets m a b) (tried m) i) (AllWithin (λ c. ¬ Meets m a b c) (tried m) 0 (length (tried m)))

@@ -6,13 +6,14 @@ use Rattle.std.proofs.Common.{◌≡◌, suc, ◌≢◌, List, [], ◌∷◌, ma
 use Rattle.std.specs.List.{AllByRecursion}
 use Rattle.fields.specs.Field.{Ops, Laws, comb}
 use Rattle.fields.specs.Basics
+use Rattle.fields.specs.Inverses
 use Rattle.fields.specs.Basics.{ring}
 use Rattle.skew.specs.Values.{step, eval}
 use Rattle.skew.specs.Products.{coef}
 use Rattle.skew.proofs.Evaluation
 use Rattle.skew.proofs.Multiplication
 use Rattle.skew.proofs.Multiplication.{times}
-use Rattle.skew.proofs.RootCount
+use Rattle.skew.proofs.IndependentLocators
 use Rattle.skew.proofs.Vanishing
 use Rattle.skew.proofs.Vanishing.{linear}
 use Rattle.ranks.specs.Ranks.{Spanned}
@@ -29,14 +30,14 @@ module _ {F : Type 0} {o : Ops F} (l : Laws o) where
   paired a es = map (λ e. (a, e)) es
 
   -- x - c takes w to zero, where c is the ratio of w; also where w is zero.
-  factor_root : (a w : F) → eval o a (linear o (RootCount.ratio l a w)) w ≡ zero
-  factor_root a w = elim (l.same w zero) [ yes z ↦ at_zero z | no n ↦ Vanishing.linear_root l a (RootCount.ratio l a w) w (back n) ]
+  factor_root : (a w : F) → eval o a (linear o (IndependentLocators.ratio l a w)) w ≡ zero
+  factor_root a w = elim (l.same w zero) [ yes z ↦ at_zero z | no n ↦ Vanishing.linear_root l a (IndependentLocators.ratio l a w) w (back n) ]
     where
-      at_zero : w ≡ zero → eval o a (linear o (RootCount.ratio l a w)) w ≡ zero
-      at_zero z = ap (eval o a (linear o (RootCount.ratio l a w))) z ∙ Evaluation.eval_zero l a (linear o (RootCount.ratio l a w))
+      at_zero : w ≡ zero → eval o a (linear o (IndependentLocators.ratio l a w)) w ≡ zero
+      at_zero z = ap (eval o a (linear o (IndependentLocators.ratio l a w))) z ∙ Evaluation.eval_zero l a (linear o (IndependentLocators.ratio l a w))
 
-      back : w ≢ zero → RootCount.ratio l a w * w ≡ step o a w
-      back n = Basics.mul_assoc l (step o a w) (inv w) w ∙ ap (λ u. step o a w * u) (Basics.inv_mul l w n) ∙ Basics.mul_one l (step o a w)
+      back : w ≢ zero → IndependentLocators.ratio l a w * w ≡ step o a w
+      back n = Basics.mul_assoc l (step o a w) (inv w) w ∙ ap (λ u. step o a w * u) (Inverses.inv_mul l w n) ∙ Basics.mul_one l (step o a w)
 
   -- What p kills, a multiple of p kills.
   times_keeps : (f p : List F) (pairs : List (F × F)) → AllByRecursion (Kills p) pairs → AllByRecursion (Kills (times o f p)) pairs
@@ -50,7 +51,7 @@ module _ {F : Type 0} {o : Ops F} (l : Laws o) where
   killer (t ∷ pairs) =
       let s = killer pairs in
       let p = s.0 in
-      let c = RootCount.ratio l t.0 (eval o t.0 p t.1) in (
+      let c = IndependentLocators.ratio l t.0 (eval o t.0 p t.1) in (
         times o (linear o c) p,
         Multiplication.length_times l (neg c) (one ∷ []) p ∙ omega (arith, s.1),
         Vanishing.highest l c p (length pairs) s.1 s.2,

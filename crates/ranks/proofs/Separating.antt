@@ -10,15 +10,17 @@ use Rattle.std.proofs.lemmas.List.{length-map}
 use Rattle.std.proofs.lemmas.Bool.{cases_lt}
 use Rattle.std.specs.List.{AllByRecursion}
 use Rattle.fields.specs.Field.{Ops, Laws, Zero, plus, scale}
+use Rattle.fields.specs.Inverses
 use Rattle.fields.specs.Basics
 use Rattle.fields.specs.Basics.{ring}
 use Rattle.fields.specs.Rows
 use Rattle.skew.specs.Values.{step, eval, value}
 use Rattle.skew.specs.Products.{coef}
-use Rattle.skew.specs.Roots.{Block, block, places, points, Lawful}
+use Rattle.skew.specs.Roots.{Block, block, locator_count, points, Lawful}
 use Rattle.skew.proofs.Evaluation
 use Rattle.skew.proofs.Everywhere.{all_append, all_left, all_right, all_map}
 use Rattle.skew.proofs.Multiplication
+use Rattle.skew.proofs.Coefficients
 use Rattle.skew.proofs.Multiplication.{times}
 use Rattle.skew.proofs.RootCount
 use Rattle.skew.proofs.Sums
@@ -26,7 +28,7 @@ use Rattle.skew.proofs.Sums.{cons_path}
 use Rattle.ranks.specs.Ranks.{Spanned, Weighs}
 use Rattle.ranks.specs.Distance.{codeword, difference, MinimumDistance}
 use Rattle.ranks.proofs.Killing
-use Rattle.ranks.proofs.Spans
+use Rattle.ranks.proofs.Bases
 
 abbrev pub together : {F : Type 0} → List (List F) → ℕ
 together [] = 0
@@ -58,7 +60,7 @@ module _ {F : Type 0} {o : Ops F} (l : Laws o) where
   weight_spans : (word : List (List F)) (t : ℕ) → Weighs o word t → (spans : List (List F)) × (together spans ≡ t) × SpannedBy spans word
   weight_spans [] t w = ([], sym w, tt)
   weight_spans (xs ∷ word) t w =
-      let here = Spans.rank_spans l xs w.0 w.1 in
+      let here = Bases.rank_spans l xs w.0 w.1 in
       let there = weight_spans word w.2 w.3 in
       (here.0 ∷ there.0, omega (arith, here.1, there.1, w.4), (here.2, there.2))
 
@@ -103,17 +105,17 @@ module _ {F : Type 0} {o : Ops F} (l : Laws o) where
 
   -- A polynomial whose values are spanned by few elements is zero: a polynomial that vanishes at those, times it, vanishes at
   -- all places, and the root count does the rest.
-  pub far_apart : (blocks : List (Block F)) (spans : List (List F)) (f : List F) → Lawful o blocks → Within f blocks spans → length f +ℕ together spans ≤ places blocks → AllByRecursion (Zero o) f
+  pub far_apart : (blocks : List (Block F)) (spans : List (List F)) (f : List F) → Lawful o blocks → Within f blocks spans → length f +ℕ together spans ≤ locator_count blocks → AllByRecursion (Zero o) f
   far_apart blocks spans f lawful covered fits =
       let s = Killing.killer l (flat blocks spans) in
       let p = s.0 in
       let k = length_flat f blocks spans covered in
-      let m : length (times o p f) ≤ places blocks = omega (arith, length_product p f (length (flat blocks spans)) s.1, k) in
-      Multiplication.no_divisors l p f (λ z. Basics.one_zero l (sym s.2 ∙ Multiplication.coef_of l p z (length (flat blocks spans))))
+      let m : length (times o p f) ≤ locator_count blocks = omega (arith, length_product p f (length (flat blocks spans)) s.1, k) in
+      Multiplication.no_divisors l p f (λ z. Inverses.one_zero l (sym s.2 ∙ Coefficients.coef_of l p z (length (flat blocks spans))))
       (RootCount.roots_few l blocks (times o p f) lawful m (all_killed p f blocks spans covered s.3))
 
   -- A codeword of small weight has the message zero.
-  light : (blocks : List (Block F)) (f : List F) (t : ℕ) → Lawful o blocks → Weighs o (codeword o f blocks) t → length f +ℕ t ≤ places blocks → AllByRecursion (Zero o) f
+  light : (blocks : List (Block F)) (f : List F) (t : ℕ) → Lawful o blocks → Weighs o (codeword o f blocks) t → length f +ℕ t ≤ locator_count blocks → AllByRecursion (Zero o) f
   light blocks f t lawful w fits =
       let s = weight_spans (codeword o f blocks) t w in
       far_apart blocks s.0 f lawful (within f blocks s.0 s.2) (omega (arith, s.1))
@@ -157,7 +159,7 @@ module _ {F : Type 0} {o : Ops F} (l : Laws o) where
   -- Both statements.
   pub minimum_distance : MinimumDistance o
   minimum_distance = record {
-    nonzero = λ blocks f t lawful w n. elim (cases_lt (places blocks) (length f +ℕ t)) [ inl h ↦ h | inr h ↦ absurd (n (null_word f blocks (light blocks f t lawful w h))) ];
+    nonzero = λ blocks f t lawful w n. elim (cases_lt (locator_count blocks) (length f +ℕ t)) [ inl h ↦ h | inr h ↦ absurd (n (null_word f blocks (light blocks f t lawful w h))) ];
     apart = λ blocks f g t lawful e w fits.
         Sums.same_coefs l f g e (same f g (light blocks (minus f g) t lawful (subst (λ v. Weighs o v t) (word_minus f g blocks) w) (omega (arith, Rows.length_plus l f (scale o (neg one) g), length-map g (o.mul (neg one))))));
   }
@@ -165,4 +167,4 @@ module _ {F : Type 0} {o : Ops F} (l : Laws o) where
       same : (f g : List F) → AllByRecursion (Zero o) (minus f g) → (i : ℕ) → coef o f i ≡ coef o g i
       same f g z i =
           Basics.equal_of_sub l (coef o f i) (coef o g i)
-          (sym (Multiplication.coef_plus l f (scale o (neg one) g) i ∙ ap (λ w. coef o f i + w) (Multiplication.coef_scale l (neg one) g i ∙ one_less (coef o g i))) ∙ Multiplication.coef_of l (minus f g) z i)
+          (sym (Coefficients.coef_plus l f (scale o (neg one) g) i ∙ ap (λ w. coef o f i + w) (Coefficients.coef_scale l (neg one) g i ∙ one_less (coef o g i))) ∙ Coefficients.coef_of l (minus f g) z i)

@@ -8,7 +8,7 @@ use Rattle.fields.specs.Field.{Ops, Laws}
 use Rattle.fields.specs.Meaning.{Meaning}
 use Rattle.fields.specs.Elements.{elem, elems, ops}
 use Rattle.ranks.specs.Ranks.{pick, IsRank, Weighs, Ranked, total, cut}
-use Rattle.ranks.proofs.Spans
+use Rattle.ranks.proofs.Bases
 
 -- No more is picked than there is.
 pub pick_few : {A : Type 0} (marks : List Bool) (xs : List A) → length (pick marks xs) ≤ length xs
@@ -62,7 +62,7 @@ module _ {F : Type 0} {o : Ops F} (l : Laws o) where
   weight_exists : (word : List (List F)) → (t : ℕ) × Weighs o word t
   weight_exists [] = (0, refl)
   weight_exists (xs ∷ word) =
-      let r = Spans.rank_exists l xs in
+      let r = Bases.rank_exists l xs in
       let u = weight_exists word in
       (r.0 + u.0, (r.0, r.1, u.0, u.1, refl))
 
@@ -70,8 +70,8 @@ module _ {F : Type 0} {o : Ops F} (l : Laws o) where
   weight_unique : (word : List (List F)) (t u : ℕ) → Weighs o word t → Weighs o word u → t ≡ u
   weight_unique [] t u v w = v ∙ sym w
   weight_unique (xs ∷ word) t u v w =
-      omega (arith, v.4, w.4, Spans.rank_unique l xs v.0 w.0 v.1 w.1, weight_unique word v.2 w.2 v.3 w.3)
+      omega (arith, v.4, w.4, Bases.rank_unique l xs v.0 w.0 v.1 w.1, weight_unique word v.2 w.2 v.3 w.3)
 
   -- So have lists and words.
   pub ranked : Ranked o
-  ranked = record { rank = Spans.rank_exists l; one_rank = Spans.rank_unique l; weight = weight_exists; one_weight = weight_unique }
+  ranked = record { rank = Bases.rank_exists l; one_rank = Bases.rank_unique l; weight = weight_exists; one_weight = weight_unique }

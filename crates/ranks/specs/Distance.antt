@@ -7,7 +7,7 @@ use Rattle.std.specs.Prelude.{◌≡◌, ℕ, ◌+◌, ◌<◌, ◌≤◌, List,
 use Rattle.std.specs.List.{AllByRecursion}
 use Rattle.fields.specs.Field.{Ops, Zero, plus}
 use Rattle.skew.specs.Values.{value}
-use Rattle.skew.specs.Roots.{Block, block, places, Lawful}
+use Rattle.skew.specs.Roots.{Block, block, locator_count, Lawful}
 use Rattle.ranks.specs.Ranks.{Weighs}
 
 module _ {F : Type 0} (o : Ops F) where
@@ -24,6 +24,6 @@ module _ {F : Type 0} (o : Ops F) where
 -- difference weighs at most n - k are equal.
 pub record MinimumDistance {F : Type 0} (o : Ops F) : Type 0 where
   pub nonzero : (blocks : List (Block F)) (f : List F) (t : ℕ) → Lawful o blocks → Weighs o (codeword o f blocks) t
-      → ¬ AllByRecursion (AllByRecursion (Zero o)) (codeword o f blocks) → places blocks < length f + t
+      → ¬ AllByRecursion (AllByRecursion (Zero o)) (codeword o f blocks) → locator_count blocks < length f + t
   pub apart : (blocks : List (Block F)) (f g : List F) (t : ℕ) → Lawful o blocks → length f ≡ length g
-      → Weighs o (difference o (codeword o f blocks) (codeword o g blocks)) t → length f + t ≤ places blocks → f ≡ g
+      → Weighs o (difference o (codeword o f blocks) (codeword o g blocks)) t → length f + t ≤ locator_count blocks → f ≡ g

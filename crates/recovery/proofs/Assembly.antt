@@ -27,11 +27,12 @@ use Rattle.hints.specs.Splittings.{Parts as SplitsParts}
 use Rattle.hints.specs.declared.parts.Parts.{Parts}
 use Rattle.hints.specs.declared.holder.Hints.{Hints}
 use Rattle.hints.specs.Holdings.{Holds}
-use Rattle.hints.specs.Outcomes.{parts_from, parts_of, Divided, LeastAnswer}
+use Rattle.hints.specs.Outcomes.{parts_of, Divided, LeastAnswer}
 use Rattle.recovery.specs.declared.outcome.Recovery.{Recovery}
 use Rattle.recovery.specs.Reach.{apart, InReach, Recovered}
 use Rattle.recovery.specs.Candidates.{Candidate}
-use Rattle.hints.proofs.Judging.{places_in}
+use Rattle.recovery.proofs.Unhinted.{full_word}
+use Rattle.hints.proofs.CodePlaces.{places_in}
 
 -- A word of elements cut into blocks.
 pub cut_map : {A B : Type 0} (g : A → B) (ns : List ℕ) (w : List A) → map (map g) (cut ns w) ≡ cut ns (map g w)
@@ -129,11 +130,7 @@ module _ {m : Meaning} (l : Laws m) where
       -- The full part's weight.
       full_weight : Weighs (ops m) (full_part (parts_of m (held c.lengths) parts)) t
       full_weight =
-          subst (λ u. Weighs (ops m) u t) (cut_map (elem m) (held c.lengths) (held parts.full) ∙ sym (fulls (held c.lengths) (elems m (held parts.full)) (elems m (held parts.row)) (elems m (held parts.column)))) weighs
-        where
-          fulls : (ns : List ℕ) (f r k : List (Elem m)) → full_part (parts_from ns f r k) ≡ cut ns f
-          fulls [] f r k = refl
-          fulls (n ∷ ns) f r k = cons_path refl (fulls ns (drop n f) (drop n r) (drop n k))
+          subst (λ u. Weighs (ops m) u t) (cut_map (elem m) (held c.lengths) (held parts.full) ∙ sym (full_word (held c.lengths) (elems m (held parts.full)) (elems m (held parts.row)) (elems m (held parts.column)))) weighs
 
       -- Each splitting of the codeword's difference has as many full errors.
       least : (ps : List (SplitsParts (Elem m))) (u : ℕ) → Splitting (ops m) gs (apart m c (elems m w) (elems m cw)) ps → Weighs (ops m) (full_part ps) u → t ≤ u

@@ -1,27 +1,28 @@
 -- Column hints taken away by their pivots: what is left of the locators is independent, so that what is left of a code is lawful.
 --
---   clear_plus, clear_map, clear_spanned    clearing is linear, and keeps what is spanned
---   clear_mix                               it takes sums of the rows to zero
---   Gathered                                how a combination of what is left comes from the locators
---   weave marks cs us                       one list with us at the marked places and cs at the others
---   left_lawful                             the blocks that are left are lawful, with a place less for each column hint
-use Rattle.std.proofs.Common.{◌≡◌, suc, ◌+◌ as ◌+ℕ◌, Bool, true, false, List, [], ◌∷◌, map, length, sym, refl, ap, ◌∙◌, subst, arith}
+--   clear_map              clearing and a linear map may change places
+--   Gathered               how a combination of what is left comes from the locators
+--   weave marks cs us      one list with us at the marked places and cs at the others
+--   left_lawful            the blocks that are left are lawful, with a place less for each column hint
+use Rattle.std.proofs.Common.{◌≡◌, suc, ◌+◌ as ◌+ℕ◌, Bool, true, false, List, [], ◌∷◌, map, length, sym, refl, ap, ◌∙◌, arith}
 use Rattle.std.proofs.lemmas.List.{length-map}
 use Rattle.std.specs.List.{AllByRecursion}
 use Rattle.fields.specs.Field.{Ops, Laws, Zero, Fixed, plus, comb}
 use Rattle.fields.specs.Basics
+use Rattle.fields.specs.Twists
 use Rattle.fields.specs.Basics.{ring}
 use Rattle.fields.specs.Rows
-use Rattle.skew.specs.Roots.{places, Independent, Apart, Lawful}
+use Rattle.skew.specs.Roots.{locator_count, Independent, Apart, Lawful}
 use Rattle.skew.proofs.Evaluation
-use Rattle.ranks.specs.Ranks.{pick, Spanned}
-use Rattle.ranks.specs.Reduction.{count, heads, tails, mix, Pivots}
+use Rattle.ranks.specs.Ranks.{pick}
+use Rattle.ranks.specs.Reduction.{count, heads, tails, mix}
 use Rattle.ranks.specs.RowSteps.{clear}
 use Rattle.ranks.proofs.Spans
+use Rattle.ranks.proofs.Picks
 use Rattle.ranks.proofs.Mixing
-use Rattle.ranks.proofs.Inserting
+use Rattle.ranks.proofs.ClearedRow
 use Rattle.hints.specs.Splittings.{column_count}
-pub use Rattle.hints.proofs.Clears.{clear_plus}
+use Rattle.hints.proofs.Clears
 use Rattle.recovery.proofs.Sites.{Site, code, givens, omit, AllReduced, left_code}
 use Rattle.recovery.proofs.Placewise
 
@@ -41,29 +42,10 @@ module _ {F : Type 0} {o : Ops F} (l : Laws o) where
   pub clear_map : (T : F → F) → Evaluation.Linear l T → (marks : List Bool) (hs : List (List F)) (v : List F) → AllByRecursion (AllByRecursion (Fixed o)) hs → clear o marks hs (map T v) ≡ map T (clear o marks hs v)
   clear_map T L marks hs v k =
       ap (λ n. plus o (map T v) (map neg (mix o n hs (pick marks (map T v))))) (length-map v T)
-      ∙ ap (λ w. plus o (map T v) (map neg (mix o (length v) hs w))) (Mixing.pick_map T marks v)
+      ∙ ap (λ w. plus o (map T v) (map neg (mix o (length v) hs w))) (Picks.pick_map T marks v)
       ∙ ap (λ w. plus o (map T v) (map neg w)) (Placewise.mix_map l T L (length v) hs (pick marks v) k)
       ∙ ap (λ w. plus o (map T v) w) (Placewise.map_neg_map l T L (mix o (length v) hs (pick marks v)))
-      ∙ sym (Placewise.map_plus l T L v (map neg (mix o (length v) hs (pick marks v))))
-
-  -- What spans a list spans what is left of it.
-  pub clear_spanned : (marks : List Bool) (hs : List (List F)) (es v : List F) → AllByRecursion (AllByRecursion (Fixed o)) hs → AllByRecursion (Spanned o es) v → AllByRecursion (Spanned o es) (clear o marks hs v)
-  clear_spanned marks hs es v k h =
-      Placewise.all_sum l es v (map neg (mix o (length v) hs (pick marks v))) h
-      (Placewise.all_neg l es (mix o (length v) hs (pick marks v)) (Placewise.all_mix l (length v) hs es (pick marks v) k (Spans.all_pick l (Spanned o es) marks v h)))
-
-  -- A sum of the rows is cleared to zero.
-  pub clear_mix : (marks : List Bool) (hs : List (List F)) (xs : List F) → Pivots o 0 marks hs → length xs ≡ length hs → count marks ≡ length xs
-      → AllByRecursion (Zero o) (clear o marks hs (mix o (length marks) hs xs))
-  clear_mix marks hs xs h e c = subst (λ w. AllByRecursion (Zero o) (plus o v (map neg w))) (sym same) (Mixing.all_away l v)
-    where
-      v : List F
-      v = mix o (length marks) hs xs
-
-      same : mix o (length (mix o (length marks) hs xs)) hs (pick marks (mix o (length marks) hs xs)) ≡ mix o (length marks) hs xs
-      same =
-          ap (λ n. mix o n hs (pick marks (mix o (length marks) hs xs))) (Mixing.length_mix l (length marks) hs xs)
-          ∙ ap (λ w. mix o (length marks) hs w) (Mixing.pick_mix l 0 marks hs xs h e (omega arith))
+      ∙ sym (Clears.map_plus l T L v (map neg (mix o (length v) hs (pick marks v))))
 
   -- A combination of what is left of v, where ps are taken off times their rows, is one of v at the same places less one of ps.
   Gathered : List Bool → List (List F) → List F → List F → List F → Type 0
@@ -126,9 +108,9 @@ module _ {F : Type 0} {o : Ops F} (l : Laws o) where
   -- It is fixed where both lists are.
   fixed_weave : (marks : List Bool) (cs us : List F) → AllByRecursion (Fixed o) cs → AllByRecursion (Fixed o) us → AllByRecursion (Fixed o) (weave marks cs us)
   fixed_weave [] cs us h k = tt
-  fixed_weave (true ∷ marks) cs [] h k = (Basics.fixed_zero l, fixed_weave marks cs [] h k)
+  fixed_weave (true ∷ marks) cs [] h k = (Twists.fixed_zero l, fixed_weave marks cs [] h k)
   fixed_weave (true ∷ marks) cs (u ∷ us) h k = (k.0, fixed_weave marks cs us h k.1)
-  fixed_weave (false ∷ marks) [] us h k = (Basics.fixed_zero l, fixed_weave marks [] us h k)
+  fixed_weave (false ∷ marks) [] us h k = (Twists.fixed_zero l, fixed_weave marks [] us h k)
   fixed_weave (false ∷ marks) (c ∷ cs) us h k = (h.0, fixed_weave marks cs us h.1 k)
 
   -- Where it is zero, so are the coefficients of what is left.
@@ -144,8 +126,8 @@ module _ {F : Type 0} {o : Ops F} (l : Laws o) where
   left_independent : (marks : List Bool) (hs : List (List F)) (bs : List F) → length marks ≡ length bs → AllByRecursion (AllByRecursion (Fixed o)) hs → Independent o bs → Independent o (omit marks (clear o marks hs bs))
   unfolding Gathered
   left_independent marks hs bs len k ind cs m fix e =
-      zero_weave marks cs (map neg g.0) (omega (arith, m, length_omit marks (clear o marks hs bs) (Inserting.length_clear l marks hs bs ∙ sym len)))
-      (ind (weave marks cs (map neg g.0)) (length_weave marks cs (map neg g.0) ∙ len) (fixed_weave marks cs (map neg g.0) fix (Inserting.fixed_negs l g.0 g.1)) sum)
+      zero_weave marks cs (map neg g.0) (omega (arith, m, length_omit marks (clear o marks hs bs) (ClearedRow.length_clear l marks hs bs ∙ sym len)))
+      (ind (weave marks cs (map neg g.0)) (length_weave marks cs (map neg g.0) ∙ len) (fixed_weave marks cs (map neg g.0) fix (ClearedRow.fixed_negs l g.0 g.1)) sum)
     where
       g : Gathered marks hs bs cs (pick marks bs)
       g = gathered marks hs bs cs (pick marks bs) k fix
@@ -161,7 +143,7 @@ module _ {F : Type 0} {o : Ops F} (l : Laws o) where
 
   -- The blocks that are left are lawful, with a place less for each column hint.
   pub left_lawful : (marks : List (List Bool)) (sites : List (Site F)) → Lawful o (code sites) → AllReduced o marks sites
-      → Lawful o (left_code o marks sites) × (places (left_code o marks sites) +ℕ column_count (givens sites) ≡ places (code sites))
+      → Lawful o (left_code o marks sites) × (locator_count (left_code o marks sites) +ℕ column_count (givens sites) ≡ locator_count (code sites))
   left_lawful [] [] lawful red = (tt, omega arith)
   left_lawful [] (s ∷ sites) lawful red = absurd red
   left_lawful (m ∷ marks) [] lawful red = absurd red
@@ -169,6 +151,6 @@ module _ {F : Type 0} {o : Ops F} (l : Laws o) where
       let r = left_lawful marks sites lawful.3 red.1 in
       let f = red.0.form in
       let hs = s.given.columns in (
-        (lawful.0, left_independent m hs s.locators f.size (Inserting.fixed_list l hs (length s.locators) f.rows) lawful.1, left_apart s.parameter marks sites lawful.2, r.0),
-        omega (arith, r.1, f.size, f.full, length_omit m (clear o m hs s.locators) (Inserting.length_clear l m hs s.locators ∙ sym f.size)),
+        (lawful.0, left_independent m hs s.locators f.size (ClearedRow.fixed_list l hs (length s.locators) f.rows) lawful.1, left_apart s.parameter marks sites lawful.2, r.0),
+        omega (arith, r.1, f.size, f.full, length_omit m (clear o m hs s.locators) (ClearedRow.length_clear l m hs s.locators ∙ sym f.size)),
       )

@@ -6,13 +6,14 @@ use Rattle.std.specs.List.{AllByRecursion}
 use Rattle.fields.specs.Field.{Ops, Laws, Zero, plus}
 use Rattle.fields.specs.Basics
 use Rattle.fields.specs.Basics.{ring}
+use Rattle.fields.specs.Lists.{all_follow}
 use Rattle.skew.specs.Values.{step, eval}
 use Rattle.skew.specs.Products.{coef, Below}
-use Rattle.skew.specs.Roots.{Block, block, places, Lawful}
-use Rattle.skew.proofs.Everywhere.{all_so}
+use Rattle.skew.specs.Roots.{Block, block, locator_count, Lawful}
+use Rattle.skew.proofs.Coefficients
 use Rattle.skew.proofs.Multiplication
 use Rattle.skew.proofs.Multiplication.{shift, times}
-use Rattle.skew.proofs.PairSteps
+use Rattle.skew.proofs.PairDegrees
 use Rattle.ranks.specs.Ranks.{Spanned}
 use Rattle.ranks.proofs.Separating
 use Rattle.ranks.proofs.Separating.{together}
@@ -34,7 +35,7 @@ module _ {F : Type 0} {o : Ops F} (l : Laws o) where
 
   -- A sum reaches no farther than its parts.
   pub below_plus : (n : ℕ) (f g : List F) → Below o n f → Below o n g → Below o n (plus o f g)
-  below_plus n f g h k i e = Multiplication.coef_plus l f g i ∙ ap (λ w. w + coef o g i) (h i e) ∙ ap (λ w. zero + w) (k i e) ∙ Basics.add_zero l zero
+  below_plus n f g h k i e = Coefficients.coef_plus l f g i ∙ ap (λ w. w + coef o g i) (h i e) ∙ ap (λ w. zero + w) (k i e) ∙ Basics.add_zero l zero
 
   -- Zero times anything.
   pub times_null : (p q : List F) → ((i : ℕ) → coef o p i ≡ zero) → (i : ℕ) → coef o (times o p q) i ≡ zero
@@ -54,7 +55,7 @@ module _ {F : Type 0} {o : Ops F} (l : Laws o) where
       ∙ ap (λ w. c * zero + w) (times_null p (shift o q) (λ j. h (suc j) (omega arith)) i) ∙ simp (ring, l)
   below_times (suc n) m (c ∷ p) q h k i e =
       Multiplication.coef_times l c p q i ∙ ap (λ w. c * w + coef o (times o p (shift o q)) i) (k i (omega arith))
-      ∙ ap (λ w. c * zero + w) (below_times n (suc m) p (shift o q) (λ j g. h (suc j) (omega arith)) (PairSteps.below_shift l m (suc m) q (omega arith) k) i (omega arith)) ∙ simp (ring, l)
+      ∙ ap (λ w. c * zero + w) (below_times n (suc m) p (shift o q) (λ j g. h (suc j) (omega arith)) (PairDegrees.below_shift l m (suc m) q (omega arith) k) i (omega arith)) ∙ simp (ring, l)
 
   -- With k coefficients in f and t above the lowest in σ, a q that stays k + t below the place a keeps the product below a.
   below_by : (a k t n : ℕ) (q σ f : List F) → suc a - (k +ℕ t) ≡ n → ((i : ℕ) → a < i +ℕ (k +ℕ t) → coef o q i ≡ zero) → Below o (suc t) σ → length f ≡ k
@@ -69,7 +70,7 @@ module _ {F : Type 0} {o : Ops F} (l : Laws o) where
 
   -- A polynomial without its zeros has the same values.
   eval_take : (n : ℕ) (f : List F) → Below o n f → (a b : F) → eval o a f b ≡ eval o a (take n f) b
-  eval_take ℕ.zero f h a b = Separating.eval_null l a f b (Multiplication.of_coef l f (λ i. h i (omega arith)))
+  eval_take ℕ.zero f h a b = Separating.eval_null l a f b (Coefficients.of_coef l f (λ i. h i (omega arith)))
   eval_take (suc n) [] h a b = refl
   eval_take (suc n) (x ∷ f) h a b = ap (λ w. x * b + w) (eval_take n f (λ j e. h (suc j) (omega arith)) a (step o a b))
 
@@ -80,14 +81,14 @@ module _ {F : Type 0} {o : Ops F} (l : Laws o) where
   within_same f g same [] (es ∷ spans) h = absurd h
   within_same f g same (block a bs ∷ blocks) [] h = absurd h
   within_same f g same (block a bs ∷ blocks) (es ∷ spans) h = (
-    all_so (λ b. Spanned o es (eval o a f b)) (λ b. Spanned o es (eval o a g b)) (λ b. subst (Spanned o es) (same a b)) bs h.0,
+    all_follow (λ b. Spanned o es (eval o a f b)) (λ b. Spanned o es (eval o a g b)) (λ b. subst (Spanned o es) (same a b)) bs h.0,
     within_same f g same blocks spans h.1,
   )
 
   -- A polynomial with no coefficients from n on, and with values that few elements span, is zero.
   pub far_below : (n : ℕ) (blocks : List (Block F)) (spans : List (List F)) (f : List F) → Lawful o blocks → Separating.Within l f blocks spans → Below o n f
-      → n +ℕ together spans ≤ places blocks → (i : ℕ) → coef o f i ≡ zero
-  far_below n blocks spans f lawful near h fits i = elim (cases_lt i n) [ inl k ↦ sym (get_or-take n f i zero k) ∙ Multiplication.coef_of l (take n f) null i | inr k ↦ h i k ]
+      → n +ℕ together spans ≤ locator_count blocks → (i : ℕ) → coef o f i ≡ zero
+  far_below n blocks spans f lawful near h fits i = elim (cases_lt i n) [ inl k ↦ sym (get_or-take n f i zero k) ∙ Coefficients.coef_of l (take n f) null i | inr k ↦ h i k ]
     where
       null : AllByRecursion (Zero o) (take n f)
       null = Separating.far_apart l blocks spans (take n f) lawful (within_same f (take n f) (eval_take n f h) blocks spans near) (omega (arith, length-take n f))

@@ -10,9 +10,10 @@ use Rattle.fields.specs.Basics
 use Rattle.skew.specs.Values.{twisted}
 use Rattle.skew.specs.Products.{coef, coefficient, Below, Product}
 use Rattle.skew.specs.Quotients.{Quotient}
-use Rattle.skew.specs.Roots.{places, Lawful}
+use Rattle.skew.specs.Roots.{locator_count, Lawful}
 use Rattle.skew.specs.Pairs.{Spot, Two, worth, Carried}
 use Rattle.skew.proofs.Evaluation
+use Rattle.skew.proofs.Coefficients
 use Rattle.skew.proofs.Multiplication
 use Rattle.skew.proofs.Multiplication.{times}
 use Rattle.ranks.specs.Ranks.{Weighs}
@@ -34,7 +35,7 @@ module _ {F : Type 0} {o : Ops F} (l : Laws o) where
   length_points_at a σ (b ∷ bs) (y ∷ ys) = omega (arith, length_points_at a σ bs ys)
 
   -- In all blocks.
-  pub length_points : (σ : List F) (marks : List (List Bool)) (sites : List (Site F)) → length (all_points o σ marks sites) ≤ places (left_code o marks sites)
+  pub length_points : (σ : List F) (marks : List (List Bool)) (sites : List (Site F)) → length (all_points o σ marks sites) ≤ locator_count (left_code o marks sites)
   length_points σ [] sites = omega arith
   length_points σ (m ∷ marks) [] = omega arith
   length_points σ (m ∷ marks) (s ∷ sites) =
@@ -53,7 +54,7 @@ module _ {F : Type 0} {o : Ops F} (l : Laws o) where
   -- The divisor is not zero.
   pub nonzero_product : {k a b : ℕ} {ps : List (Spot F)} {A B : Two F} {σ p : List F} (sites : List (Site F))
       → Carried o k ps A B a b → Annihilates o σ sites → Product o B.q1 σ p → ¬ AllByRecursion (Zero o) p
-  nonzero_product {b = b} {B = B} sites carried kills product = product.nonzero (λ z. carried.B1.0 (Multiplication.coef_of l B.q1 z b)) kills.1
+  nonzero_product {b = b} {B = B} sites carried kills product = product.nonzero (λ z. carried.B1.0 (Coefficients.coef_of l B.q1 z b)) kills.1
 
   -- Both pairs give a polynomial with f that few elements span. For the first it is not zero, so the first has a large degree and the
   -- second a small one; so for the second it is zero, and tells f.
@@ -62,16 +63,16 @@ module _ {F : Type 0} {o : Ops F} (l : Laws o) where
       → Carried o (k +ℕ row_count (givens sites)) (all_points o σ marks sites) A B a b
       → Product o B.q1 σ p → Quotient o (map neg B.q0) p d k q
       → (f : List F) → length f ≡ k → (parts : List (Parts F)) (t : ℕ) → Splitting o (givens sites) (differences o f sites) parts → Weighs o (full_part parts) t
-      → 2 *ℕ t +ℕ (row_count (givens sites) +ℕ column_count (givens sites)) +ℕ k ≤ places (code sites) → f ≡ q
+      → 2 *ℕ t +ℕ (row_count (givens sites) +ℕ column_count (givens sites)) +ℕ k ≤ locator_count (code sites) → f ≡ q
   finds k marks sites σ p q A B a b d lawful red kills carried product quotient f len parts t splitting weight budget = quotient.only f len (λ i low high. same i)
     where
       r : ℕ
       r = row_count (givens sites)
 
-      law : Lawful o (left_code o marks sites) × (places (left_code o marks sites) +ℕ column_count (givens sites) ≡ places (code sites))
+      law : Lawful o (left_code o marks sites) × (locator_count (left_code o marks sites) +ℕ column_count (givens sites) ≡ locator_count (code sites))
       law = Clearing.left_lawful l marks sites lawful red
 
-      vanishes : (w : Two F) (n : ℕ) → AllByRecursion (λ s. worth o w s ≡ zero) (all_points o σ marks sites) → Below o n (Leftovers.joint l w σ f) → n +ℕ t ≤ places (left_code o marks sites)
+      vanishes : (w : Two F) (n : ℕ) → AllByRecursion (λ s. worth o w s ≡ zero) (all_points o σ marks sites) → Below o n (Leftovers.joint l w σ f) → n +ℕ t ≤ locator_count (left_code o marks sites)
           → (i : ℕ) → coef o (Leftovers.joint l w σ f) i ≡ zero
       vanishes w n z low fits =
           let s = Leftovers.at_sites l w σ f marks sites parts t red kills.2 splitting weight (by_recursion w (all_points o σ marks sites) z) in
@@ -80,13 +81,13 @@ module _ {F : Type 0} {o : Ops F} (l : Laws o) where
       first : Below o a (times o (times o A.q1 σ) f)
       first = Degrees.below_both l a k r A.q1 σ f carried.A1 kills.0 len
 
-      first_not : suc a +ℕ t ≤ places (left_code o marks sites) → ⊥
+      first_not : suc a +ℕ t ≤ locator_count (left_code o marks sites) → ⊥
       first_not fits =
-          carried.A0.0 (sym (Multiplication.coef_plus l A.q0 (times o (times o A.q1 σ) f) a ∙ ap (λ w. coef o A.q0 a + w) (first a (omega arith)) ∙ Basics.add_zero l _)
+          carried.A0.0 (sym (Coefficients.coef_plus l A.q0 (times o (times o A.q1 σ) f) a ∙ ap (λ w. coef o A.q0 a + w) (first a (omega arith)) ∙ Basics.add_zero l _)
           ∙ vanishes A (suc a) carried.a_vanishes (Degrees.below_plus l (suc a) A.q0 _ carried.A0.1 (λ i e. first i (omega arith))) fits a)
 
-      large : places (left_code o marks sites) ≤ a +ℕ t
-      large = elim (cases_lt (a +ℕ t) (places (left_code o marks sites))) [ inl m ↦ absurd (first_not (omega arith)) | inr m ↦ m ]
+      large : locator_count (left_code o marks sites) ≤ a +ℕ t
+      large = elim (cases_lt (a +ℕ t) (locator_count (left_code o marks sites))) [ inl m ↦ absurd (first_not (omega arith)) | inr m ↦ m ]
 
       second : Below o (b +ℕ (k +ℕ row_count (givens sites))) (times o (times o B.q1 σ) f)
       second i e =
@@ -101,7 +102,7 @@ module _ {F : Type 0} {o : Ops F} (l : Laws o) where
       same : (i : ℕ) → coef o (map neg B.q0) i ≡ coefficient o p f i
       same i =
           Degrees.coef_neg l B.q0 i
-          ∙ sym (Basics.neg_unique l (coef o B.q0 i) (coef o (times o (times o B.q1 σ) f) i) (sym (Multiplication.coef_plus l B.q0 (times o (times o B.q1 σ) f) i) ∙ null i))
+          ∙ sym (Basics.neg_unique l (coef o B.q0 i) (coef o (times o (times o B.q1 σ) f) i) (sym (Coefficients.coef_plus l B.q0 (times o (times o B.q1 σ) f) i) ∙ null i))
           ∙ Multiplication.coef_product l (times o B.q1 σ) f i
-          ∙ Multiplication.total_same l (λ j. coef o (times o B.q1 σ) j * twisted o j (coef o f (i - j))) (λ j. coef o p j * twisted o j (coef o f (i - j))) (suc i)
+          ∙ Coefficients.total_same l (λ j. coef o (times o B.q1 σ) j * twisted o j (coef o f (i - j))) (λ j. coef o p j * twisted o j (coef o f (i - j))) (suc i)
           (λ j m. ap (λ w. w * twisted o j (coef o f (i - j))) (Multiplication.coef_product l B.q1 σ j ∙ sym (product.coefficients j)))

@@ -7,7 +7,7 @@ use Rattle.std.proofs.lemmas.List.{length-map}
 use Rattle.std.proofs.lemmas.List.{take-map, length-take}
 use Rattle.std.specs.List.{AllByRecursion}
 use Rattle.fields.specs.Field.{Ops, Laws, Zero, Fixed, comb}
-use Rattle.fields.specs.Basics
+use Rattle.fields.specs.Twists
 use Rattle.fields.specs.Basics.{ring}
 use Rattle.skew.specs.Roots.{Block, block, points, Independent, Apart, Lawful}
 
@@ -64,7 +64,7 @@ module _ {F : Type 0} {o : Ops F} (l : Laws o) where
   -- It is fixed where cs is.
   fixed_padded : (cs bs : List F) → AllByRecursion (Fixed o) cs → AllByRecursion (Fixed o) (padded cs bs)
   fixed_padded cs [] h = tt
-  fixed_padded [] (b ∷ bs) h = (Basics.fixed_zero l, fixed_padded [] bs h)
+  fixed_padded [] (b ∷ bs) h = (Twists.fixed_zero l, fixed_padded [] bs h)
   fixed_padded (c ∷ cs) (b ∷ bs) h = (h.0, fixed_padded cs bs h.1)
 
   -- Zeros combine to zero.

@@ -1,15 +1,14 @@
 -- What a splitting leaves of a difference: once the column hints are cleared, and the row hints taken to zero, few elements span it.
 --
---   left-over            what a linear map that takes the row hints to zero leaves is spanned by the images of what spans the full part
 --   joint q σ f          q0 + (q1 × σ) × f
 --   Null q p             the pair q vanishes at the spot p
 --   rest_of a v          the opposite of the value of q1 × σ at v
 --   at_point             the rest of what the word has beyond f is the value of the joint polynomial, where the pair vanishes
 --   at_sites             so the values of the joint polynomial are spanned by as few elements as the full part weighs
-use Rattle.std.proofs.Common.{◌≡◌, ℕ, Bool, true, false, List, [], ◌∷◌, map, length, sym, refl, ap, ◌∙◌, subst, arith}
+use Rattle.std.proofs.Common.{◌≡◌, ℕ, Bool, List, [], ◌∷◌, map, length, sym, refl, ap, ◌∙◌, subst, arith}
 use Rattle.std.proofs.lemmas.List.{length-map}
 use Rattle.std.specs.List.{AllByRecursion}
-use Rattle.fields.specs.Field.{Ops, Laws, Zero, Fixed, plus}
+use Rattle.fields.specs.Field.{Ops, Laws, Fixed, plus}
 use Rattle.fields.specs.Basics
 use Rattle.fields.specs.Rows
 use Rattle.skew.specs.Values.{eval}
@@ -19,89 +18,26 @@ use Rattle.skew.proofs.Everywhere.{all_left, all_right}
 use Rattle.skew.proofs.Multiplication
 use Rattle.skew.proofs.Multiplication.{times}
 use Rattle.ranks.specs.Ranks.{Spanned, IsRank, Weighs}
-use Rattle.ranks.specs.Reduction.{mix, Reduced}
+use Rattle.ranks.specs.Reduction.{Reduced}
 use Rattle.ranks.specs.RowSteps.{clear}
 use Rattle.ranks.proofs.Killing
-use Rattle.ranks.proofs.Spans
-use Rattle.ranks.proofs.Mixing
-use Rattle.ranks.proofs.Inserting
+use Rattle.ranks.proofs.Bases
+use Rattle.ranks.proofs.ClearedRow
 use Rattle.ranks.proofs.Separating
 use Rattle.ranks.proofs.Separating.{together}
-use Rattle.hints.specs.Splittings.{Given, Parts, Splits, Splitting, full_part}
+use Rattle.hints.specs.Splittings.{Parts, Splits, Splitting, full_part}
+use Rattle.hints.proofs.Clears
 use Rattle.recovery.proofs.Sites.{Site, givens, difference, differences, omit, left_locators, left_symbols, ReducedSite, AllReduced, left_code, points_at, all_points}
 use Rattle.recovery.proofs.Placewise
 use Rattle.recovery.proofs.Clearing
 use Rattle.recovery.proofs.Clearing.{length_omit}
-
--- What is omitted of images.
-omit_map : {A B : Type 0} (T : A → B) (marks : List Bool) (v : List A) → omit marks (map T v) ≡ map T (omit marks v)
-omit_map T [] v = refl
-omit_map T (m ∷ marks) [] = refl
-omit_map T (true ∷ marks) (x ∷ v) = omit_map T marks v
-omit_map {B = B} T (false ∷ marks) (x ∷ v) = ap {B = List B} (λ w. T x ∷ w) (omit_map T marks v)
-
--- What holds of each element holds of those that are not marked.
-all_omit : {A : Type 0} (P : A → Type 0) (marks : List Bool) (xs : List A) → AllByRecursion P xs → AllByRecursion P (omit marks xs)
-all_omit P [] xs h = tt
-all_omit P (m ∷ marks) [] h = tt
-all_omit P (true ∷ marks) (x ∷ xs) h = all_omit P marks xs h.1
-all_omit P (false ∷ marks) (x ∷ xs) h = (h.0, all_omit P marks xs h.1)
+use Rattle.recovery.proofs.Omitting
+use Rattle.recovery.proofs.Omitting.{all_omit, omit_map}
 
 module _ {F : Type 0} {o : Ops F} (l : Laws o) where
   open o use {zero, add as ◌+◌, neg}
 
   infixl 65 ◌+◌
-  -- What is omitted of a sum.
-  omit_plus : (marks : List Bool) (u v : List F) → length u ≡ length v → omit marks (plus o u v) ≡ plus o (omit marks u) (omit marks v)
-  omit_plus [] u v e = refl
-  omit_plus (m ∷ marks) [] [] e = refl
-  omit_plus (m ∷ marks) [] (y ∷ v) e = absurd (omega arith)
-  omit_plus (m ∷ marks) (x ∷ u) [] e = absurd (omega arith)
-  omit_plus (true ∷ marks) (x ∷ u) (y ∷ v) e = omit_plus marks u v (omega arith)
-  omit_plus (false ∷ marks) (x ∷ u) (y ∷ v) e = ap (λ w. (x + y) ∷ w) (omit_plus marks u v (omega arith))
-
-  -- What a linear map that takes the row hints to zero leaves of a splitting, once cleared.
-  left_over : (T : F → F) → Evaluation.Linear l T → (marks : List Bool) (g : Given F) (e : List F) (p : Parts F) (es : List F) → Reduced o (length e) marks g.columns
-      → ((x : F) → Spanned o g.rows x → T x ≡ zero) → Splits o g e p → AllByRecursion (Spanned o es) p.full → AllByRecursion (Spanned o (map T es)) (map T (clear o marks g.columns e))
-  left_over T L marks g e p es red kills P h =
-      subst (λ w. AllByRecursion (Spanned o (map T es)) w) (sym are)
-      (Placewise.all_sum l (map T es) (image p.full) _ (Placewise.all_image l T L es (cleared p.full) (Clearing.clear_spanned l marks g.columns es p.full fixed h))
-      (Placewise.all_sum l (map T es) (image p.row) (image p.column)
-      (Placewise.none_image l T (Spanned o g.rows) kills (map T es) (cleared p.row) (Clearing.clear_spanned l marks g.columns g.rows p.row fixed P.rows))
-      (Placewise.none_image l T (Zero o) (λ x z. ap T z ∙ Evaluation.linear_zero l T L) (map T es) (cleared p.column) gone)))
-    where
-      cleared : List F → List F
-      cleared v = clear o marks g.columns v
-
-      image : List F → List F
-      image v = map T (clear o marks g.columns v)
-
-      xs : List F
-      xs = P.columns.0
-
-      fixed : AllByRecursion (AllByRecursion (Fixed o)) g.columns
-      fixed = Inserting.fixed_list l g.columns (length e) red.rows
-
-      column_is : p.column ≡ mix o (length marks) g.columns P.columns.0
-      column_is = P.columns.2 ∙ ap (λ n. mix o n g.columns P.columns.0) (sym red.size)
-
-      gone : AllByRecursion (Zero o) (clear o marks g.columns p.column)
-      gone =
-          subst (λ w. AllByRecursion (Zero o) (clear o marks g.columns w)) (sym column_is)
-          (Clearing.clear_mix l marks g.columns xs red.pivots P.columns.1 (omega (arith, red.full, P.columns.1)))
-
-      length_column : length p.column ≡ length e
-      length_column = ap length column_is ∙ Mixing.length_mix l (length marks) g.columns xs ∙ red.size
-
-      are : map T (clear o marks g.columns e)
-          ≡ plus o (map T (clear o marks g.columns p.full)) (plus o (map T (clear o marks g.columns p.row)) (map T (clear o marks g.columns p.column)))
-      are =
-          ap image P.sum
-          ∙ ap (map T) (Clearing.clear_plus l marks g.columns p.full (plus o p.row p.column) (P.full_size ∙ sym (Rows.length_plus l p.row p.column ∙ omega (arith, P.row_size, length_column)))
-          ∙ ap (plus o (cleared p.full)) (Clearing.clear_plus l marks g.columns p.row p.column (P.row_size ∙ sym length_column)))
-          ∙ Placewise.map_plus l T L (cleared p.full) (plus o (cleared p.row) (cleared p.column))
-          ∙ ap (plus o (image p.full)) (Placewise.map_plus l T L (cleared p.row) (cleared p.column))
-
   -- There are as many symbols as locators in what the word has beyond a codeword.
   pub length_difference : (f : List F) (s : Site F) → length s.symbols ≡ length s.locators → length (difference o f s) ≡ length s.locators
   length_difference f s e =
@@ -161,7 +97,7 @@ module _ {F : Type 0} {o : Ops F} (l : Laws o) where
         T = rest_of s.parameter
 
         E : (es : List F) × (length es ≡ r) × AllByRecursion (Spanned o es) p.full
-        E = Spans.rank_spans l p.full r R
+        E = Bases.rank_spans l p.full r R
 
         at : F → F
         at = eval o s.parameter f
@@ -173,7 +109,7 @@ module _ {F : Type 0} {o : Ops F} (l : Laws o) where
         n = length s.locators
 
         fixed : AllByRecursion (AllByRecursion (Fixed o)) s.given.columns
-        fixed = Inserting.fixed_list l hs n red.form.rows
+        fixed = ClearedRow.fixed_list l hs n red.form.rows
 
         length_values : (v : List F) → length (map neg (map (eval o s.parameter f) v)) ≡ length v
         length_values v = length-map (map at v) neg ∙ length-map v at
@@ -181,23 +117,23 @@ module _ {F : Type 0} {o : Ops F} (l : Laws o) where
         cleared : clear o m s.given.columns (difference o f s)
             ≡ plus o (clear o m s.given.columns s.symbols) (map neg (map (eval o s.parameter f) (clear o m s.given.columns s.locators)))
         cleared =
-            Clearing.clear_plus l m hs s.symbols (map neg (map at s.locators)) (red.size ∙ sym (length_values s.locators))
+            Clears.clear_plus l m hs s.symbols (map neg (map at s.locators)) (red.size ∙ sym (length_values s.locators))
             ∙ ap (plus o (clear o m hs s.symbols)) (Clearing.clear_map l neg (Placewise.neg_linear l) m hs (map at s.locators) fixed
             ∙ ap (map neg) (Clearing.clear_map l at (Evaluation.eval_linear l s.parameter f) m hs s.locators fixed))
 
         cut_down : omit m (clear o m s.given.columns (difference o f s)) ≡ plus o (left_symbols o m s) (map neg (map (eval o s.parameter f) (left_locators o m s)))
         cut_down =
             ap (omit m) cleared
-            ∙ omit_plus m (clear o m hs s.symbols) (map neg (map at (clear o m hs s.locators)))
-            (Inserting.length_clear l m hs s.symbols ∙ red.size ∙ sym (length_values (clear o m hs s.locators) ∙ Inserting.length_clear l m hs s.locators))
+            ∙ Omitting.omit_plus l m (clear o m hs s.symbols) (map neg (map at (clear o m hs s.locators)))
+            (ClearedRow.length_clear l m hs s.symbols ∙ red.size ∙ sym (length_values (clear o m hs s.locators) ∙ ClearedRow.length_clear l m hs s.locators))
             ∙ ap (plus o (left_symbols o m s)) (omit_map neg m (map at (clear o m hs s.locators)) ∙ ap (map neg) (omit_map at m (clear o m hs s.locators)))
 
         lengths : length (left_locators o m s) ≡ length (left_symbols o m s)
         lengths =
             omega (
               arith,
-              length_omit m (clear o m hs s.locators) (Inserting.length_clear l m hs s.locators ∙ sym red.form.size),
-              length_omit m (clear o m hs s.symbols) (Inserting.length_clear l m hs s.symbols ∙ red.size ∙ sym red.form.size),
+              length_omit m (clear o m hs s.locators) (ClearedRow.length_clear l m hs s.locators ∙ sym red.form.size),
+              length_omit m (clear o m hs s.symbols) (ClearedRow.length_clear l m hs s.symbols ∙ red.size ∙ sym red.form.size),
             )
 
         reduced : Reduced o (length (difference o f s)) m s.given.columns
@@ -207,7 +143,7 @@ module _ {F : Type 0} {o : Ops F} (l : Laws o) where
         all =
             subst (AllByRecursion (Spanned o (map T E.0))) (omit_map T m (clear o m hs (difference o f s)) ∙ ap (map T) cut_down)
             (all_omit (Spanned o (map T E.0)) m (map T (clear o m hs (difference o f s)))
-            (left_over T (rest_linear s.parameter) m s.given (difference o f s) p E.0 reduced (rest_rows s.parameter s.given.rows kills) P E.2))
+            (Clears.left_over l T (rest_linear s.parameter) (length (difference o f s)) m s.given (difference o f s) p E.0 refl reduced (rest_rows s.parameter s.given.rows kills) P E.2))
 
     -- In all blocks.
     pub at_sites : (marks : List (List Bool)) (sites : List (Site F)) (ps : List (Parts F)) (t : ℕ) → AllReduced o marks sites

@@ -19,7 +19,7 @@ use Rattle.skew.proofs.Sums.{cons_path}
 use Rattle.ranks.specs.Ranks.{total, cut}
 use Rattle.ranks.specs.Reduction.{marks_of, rows_of, Reduced}
 use Rattle.ranks.specs.RowSteps.{clear}
-use Rattle.ranks.proofs.Inserting
+use Rattle.ranks.proofs.ClearedRow
 use Rattle.codes.specs.Codes.{block_size}
 use Rattle.hints.specs.Splittings.{Given, Everywhere, row_count, column_count}
 use Rattle.hints.specs.declared.block.BlockHints.{BlockHints}
@@ -55,7 +55,7 @@ module _ {m : Meaning} (l : Laws m) where
   module _ (n : ℕ) (b : BlockHints) (g : Given (Elem m)) (le : n ≤ 8) (held : BlockHolds m n b g) where
     -- What is left of a row of the block has n places.
     length_left : (v : List (Elem m)) → length v ≡ n → length (take n (cleared_row m b.columns v)) ≡ n
-    length_left v e = sym (ap length (Reading.narrow_clear l le held v e).0) ∙ Inserting.length_clear laws (take n (marks_of b.columns)) (map (take n) (rows_of m b.columns)) v ∙ e
+    length_left v e = sym (ap length (Reading.narrow_clear l le held v e).0) ∙ ClearedRow.length_clear laws (take n (marks_of b.columns)) (map (take n) (rows_of m b.columns)) v ∙ e
 
     -- The spots of one block.
     block_spots_are : (f : List (Elem m)) (a : Elem m) (locs : List (Elem m)) (ps : List Point) (ys : List ℕ) → 1 ≤ n → length locs ≡ n → n ≤ length ys

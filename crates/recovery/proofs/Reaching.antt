@@ -1,13 +1,9 @@
 -- What was prepared for a code leads to the only message whose codeword can be in reach without hints.
 --
---   reads_first      the polynomial that is rebuilt has the symbols at the first k points
---   left_fits        there is room for the product
---   divides          the division cannot fail
---   candidate        what it gives, taken from the rebuilt polynomial, is the candidate
-use Rattle.std.proofs.Common.{◌≡◌, ℕ, ◌+◌, ◌-◌, ◌≤◌, List, [], ◌∷◌, map, length, take, drop, replicate, sym, refl, ap, ◌∙◌, subst, ap₂, inl, inr, arith}
-use Rattle.std.proofs.lemmas.List.{length-map, length-replicate}
-use Rattle.std.proofs.lemmas.List.{get_or_past, length-drop, length-take-le, take-map}
-use Rattle.std.proofs.lemmas.Bool.{cases_lt}
+--   pairs_all        both pairs are carried through all points
+--   candidate        what the division gives, taken from the rebuilt polynomial, is the candidate
+use Rattle.std.proofs.Common.{◌≡◌, ℕ, ◌+◌, List, [], ◌∷◌, map, length, take, drop, replicate, sym, refl, ap, ◌∙◌, subst, ap₂, arith}
+use Rattle.std.proofs.lemmas.List.{length-map, length-replicate, get_or_past, length-take-le, take-map}
 use Rattle.std.specs.List.{AllByRecursion}
 use Rattle.fields.specs.Field.{Ops, plus, scale}
 use Rattle.fields.specs.Field as field
@@ -15,7 +11,6 @@ use Rattle.fields.specs.Meaning.{Meaning, Laws, clip}
 use Rattle.fields.specs.Elements.{Elem, elem, elems, codes, ops}
 use Rattle.fields.specs.Basics
 use Rattle.fields.proofs.Carrier
-use Rattle.skew.specs.declared.points.Point.{Point}
 use Rattle.skew.specs.declared.points.Site.{Site as ProgramSite}
 use Rattle.skew.specs.declared.pairing.TwoPairs.{TwoPairs}
 use Rattle.skew.specs.Values.{eval}
@@ -24,32 +19,32 @@ use Rattle.skew.specs.Products.{coef, coefficient}
 use Rattle.skew.specs.Polynomials.{coefficients, combined, Multiplied}
 use Rattle.skew.specs.Annihilators.{place}
 use Rattle.skew.specs.Pairs.{Spot, spots, Two, two, Carried, Held}
-use Rattle.skew.specs.Quotients.{Quotient, Divided, Undivided}
+use Rattle.skew.specs.Quotients.{Quotient, Divided}
 use Rattle.skew.proofs.Evaluation
 use Rattle.skew.proofs.Multiplication
 use Rattle.skew.proofs.Multiplication.{times}
 use Rattle.skew.proofs.Sharpness
 use Rattle.skew.proofs.Sums.{cons_path}
 use Rattle.ranks.specs.Ranks.{cut}
-use Rattle.skew.proofs.Filling.{short}
 use Rattle.codes.specs.declared.shape.Code.{Code}
 use Rattle.codes.specs.Holdings.{held, stops}
 use Rattle.codes.specs.Codes.{pts, LawfulCode, word_of, block_size}
 use Rattle.hints.specs.Splittings.{Splitting}
 use Rattle.hints.specs.Holdings.{no_hints}
-use Rattle.hints.proofs.Judging.{places_in}
+use Rattle.hints.proofs.CodePlaces.{places_in}
 use Rattle.recovery.specs.declared.prepared.Prepared.{Prepared}
 use Rattle.recovery.specs.Candidates.{Candidate}
-use Rattle.recovery.specs.Preparation.{word_spots, turned, Units, Rebuilt, Prepares}
+use Rattle.recovery.specs.Preparation.{word_spots, turned, Rebuilt, Prepares}
 use Rattle.recovery.proofs.Sites.{differences}
 use Rattle.recovery.proofs.Siting
+use Rattle.recovery.proofs.BareBlocks
 use Rattle.recovery.proofs.Hintless
-use Rattle.recovery.proofs.Hintless.{none, bare}
+use Rattle.recovery.proofs.BareBlocks.{none, bare}
 use Rattle.recovery.proofs.Reencoding
 use Rattle.recovery.proofs.Reencoding.{Met, joined, rest}
 use Rattle.recovery.proofs.Remainders.{less, coef_less, quotient_less}
 use Rattle.recovery.proofs.Turning
-use Rattle.recovery.proofs.Units.{length_first}
+use Rattle.recovery.proofs.RebuiltWords
 
 -- The opposite of the opposite.
 twice_opposite : {F : Type 0} {o : Ops F} (l : field.Laws o) (f : List F) → map o.neg (map o.neg f) ≡ f
@@ -58,7 +53,7 @@ twice_opposite l (x ∷ f) = cons_path (Basics.neg_neg l x) (twice_opposite l f)
 
 module _ {m : Meaning} (l : Laws m) where
   -- The laws of the elements.
-  laws : field.Laws (ops m)
+  abbrev laws : field.Laws (ops m)
   laws = Carrier.ops_laws l
 
   module _ (c : Code) (p : Prepared) (w : List ℕ) (law : LawfulCode m c) (prepares : Prepares m c p) (size : length w ≡ length (stops c.course)) where
@@ -70,58 +65,8 @@ module _ {m : Meaning} (l : Laws m) where
     abbrev all : List (Spot (Elem m))
     all = word_spots (pts m c) (elems m w)
 
-    -- There are n points.
-    length_pts : length (pts m c) ≡ length (stops c.course)
-    length_pts = length-map {B = Elem m × Elem m} (stops c.course) (place m)
-
-    -- There are n of them.
-    length_all : length all ≡ length (stops c.course)
-    length_all = Turning.length_spots (pts m c) (elems m w) (length-map w (elem m) ∙ size ∙ sym length_pts) ∙ length_pts
-
-    -- n is at most 24.
-    few : length (stops c.course) ≤ 24
-    few = short c.course
-
-    -- The symbols at the first k points, as the program cuts them out.
-    pub reads_first : (near : List ℕ) → ((ps : List Point) → length (take (c.dimension - 0) w) ≡ length ps → Units m ps (map coefficients p.units) → Rebuilt m ps (take (c.dimension - 0) w) near)
-        → Rebuilt m (take c.dimension (stops c.course)) (take c.dimension w) near
-    reads_first near reads =
-        let all_of : c.dimension - 0 ≡ c.dimension = omega arith in
-        subst (λ n. Rebuilt m (take c.dimension (stops c.course)) (take n w) near) all_of
-        (reads (take c.dimension (stops c.course))
-        (ap (λ n. length (take n w)) all_of ∙ length-take-le c.dimension w (omega (arith, size, law.most)) ∙ sym (length_first l c law)) prepares.units)
-
     module _ (near : List ℕ) (reads : Rebuilt m (take c.dimension (stops c.course)) (take c.dimension w) near) (qs : List ProgramSite)
         (sites-are : spots m qs ≡ map (turned (ops m) (elems m (coefficients p.top)) (elems m near)) (drop c.dimension (word_spots (pts m c) (elems m w)))) (t : TwoPairs) (carried : Held m 0 (spots m qs) t) where
-      -- The rebuilt polynomial has at most k coefficients.
-      length_near : length near ≤ c.dimension
-      length_near = omega (arith, reads.size, length_first l c law)
-
-      -- There are n - k other points.
-      length_others : length (spots m qs) + c.dimension ≡ length (stops c.course)
-      length_others =
-          omega (
-            arith,
-            ap length sites-are,
-            length-map (drop c.dimension (word_spots (pts m c) (elems m w))) (turned (ops m) (elems m (coefficients p.top)) (elems m near)),
-            length-drop c.dimension (word_spots (pts m c) (elems m w)),
-            length_all,
-            law.most,
-          )
-
-      -- There is room for the product.
-      pub left_fits : length (coefficients t.second.q0) + length (coefficients p.top) ≤ 49
-      left_fits = omega (arith, carried.second.q0, length_others, prepares.size, few)
-
-      -- The division cannot fail.
-      pub divides : ¬ Undivided m (coefficients t.second.q1) c.dimension
-      divides (inl z) = carried.carried.B1.0 (Multiplication.coef_of laws (elems m (coefficients t.second.q1)) z t.b)
-      divides (inr far) =
-          elim (cases_lt t.b far.0) [
-            | inl h ↦ far.1.0 (carried.carried.B1.1 far.0 (omega (arith, h)))
-            | inr h ↦ omega (arith, h, far.2, carried.carried.few, length_others, few)
-          ]
-
       module _ (left : List ℕ) (is-left : Multiplied m (coefficients t.second.q0) (coefficients p.top) left) where
         -- The second polynomial of the second pair, times the one that is rebuilt.
         abbrev right : List (Elem m)
@@ -146,7 +91,7 @@ module _ {m : Meaning} (l : Laws m) where
             (length-take-le c.dimension (elems m w) (omega (arith, length-map w (elem m), size, law.most)) ∙ sym long) ∙ long
           where
             long : length (take c.dimension (pts m c)) ≡ c.dimension
-            long = length-take-le c.dimension (pts m c) (omega (arith, length_pts, law.most))
+            long = length-take-le c.dimension (pts m c) (omega (arith, RebuiltWords.length_pts l c p w law prepares size, law.most))
 
         -- Both pairs are carried through all points.
         pairs_all : Carried (ops m) c.dimension all first second (t.a + c.dimension) t.b
@@ -157,9 +102,9 @@ module _ {m : Meaning} (l : Laws m) where
             (subst (AllByRecursion (Met (ops m) top (elems m near)))
             (ap₂ word_spots (sym (take-map (place m) c.dimension (stops c.course))) (sym (take-map (elem m) c.dimension w)))
             (Turning.all_met m top (elems m near) (take c.dimension (stops c.course)) (take c.dimension w) prepares.vanishes reads.has))
-            prepares.degree (λ i h. get_or_past (elems m near) i (ops m).zero (omega (arith, h, length-map near (elem m), length_near)))
+            prepares.degree (λ i h. get_or_past (elems m near) i (ops m).zero (omega (arith, h, length-map near (elem m), RebuiltWords.length_near l c p w law prepares size near reads qs sites-are t carried)))
             (subst (λ ss. Carried (ops m) 0 ss (two m t.first) (two m t.second) t.a t.b) sites-are carried.carried)
-            (Multiplication.same_product laws (two m t.first).q0 top (times (ops m) (two m t.first).q0 top) (λ i. refl)) (Multiplication.same_product laws (two m t.first).q1 (elems m near) (times (ops m) (two m t.first).q1 (elems m near)) (λ i. refl)) is-left.product (Multiplication.same_product laws (elems m (coefficients t.second.q1)) (elems m near) (times (ops m) (elems m (coefficients t.second.q1)) (elems m near)) (λ i. refl)))
+            (Multiplication.is_product laws (two m t.first).q0 top) (Multiplication.is_product laws (two m t.first).q1 (elems m near)) is-left.product (Multiplication.is_product laws (elems m (coefficients t.second.q1)) (elems m near)))
 
         -- The word's difference from the codeword of f, block by block.
         differences_are : (f v : List (Elem m)) → word_of m c f ≡ v
@@ -180,7 +125,7 @@ module _ {m : Meaning} (l : Laws m) where
           only = λ v reach.
               let f : List (Elem m) = reach.codeword.0 in
               let e : word_of m c f ≡ v = reach.codeword.2 in
-              let none-given = Hintless.nothing_given (Elem m) (length (held c.lengths)) in
+              let none-given = BareBlocks.nothing_given (Elem m) (length (held c.lengths)) in
               let same : f ≡ elems m q =
               Hintless.finds_bare laws c.dimension law.blocks (held c.lengths) (elems m w) first second (t.a + c.dimension) t.b divided.d (elems m q)
               law.sizes (length-map w (elem m) ∙ size ∙ places_in c) law.lawful
@@ -213,7 +158,7 @@ module _ {m : Meaning} (l : Laws m) where
             quotient =
                 subst (Quotient (ops m) (map (ops m).neg (rest (ops m) (elems m left) right)) (elems m (coefficients t.second.q1)) divided.d c.dimension) (sym elems_are)
                 (quotient_less laws c.dimension divided.d (elems m left) (elems m (coefficients t.second.q1)) (elems m near) (elems m g) (map (ops m).neg (rest (ops m) (elems m left) right))
-                (omega (arith, length_near, length-map near (elem m))) divided.quotient dividend)
+                (omega (arith, RebuiltWords.length_near l c p w law prepares size near reads qs sites-are t carried, length-map near (elem m))) divided.quotient dividend)
 
-            blocks_places : roots.places law.blocks ≡ length (stops c.course)
-            blocks_places = sym (Sharpness.length_points laws law.blocks) ∙ ap length law.grouped ∙ length_pts
+            blocks_places : roots.locator_count law.blocks ≡ length (stops c.course)
+            blocks_places = sym (Sharpness.length_points laws law.blocks) ∙ ap length law.grouped ∙ RebuiltWords.length_pts l c p w law prepares size

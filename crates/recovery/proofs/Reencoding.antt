@@ -10,16 +10,20 @@ use Rattle.std.proofs.lemmas.List.{length-map}
 use Rattle.std.specs.List.{AllByRecursion}
 use Rattle.fields.specs.Field.{Ops, Laws, plus, scale}
 use Rattle.fields.specs.Basics
+use Rattle.fields.specs.Inverses
+use Rattle.fields.specs.Twists
 use Rattle.fields.specs.Basics.{ring}
+use Rattle.fields.specs.Lists.{all_follow}
 use Rattle.skew.specs.Values.{step, eval, value}
 use Rattle.skew.specs.Products.{coef, Below, Degree, Product}
 use Rattle.skew.specs.Pairs.{Spot, Two, worth, Carried}
 use Rattle.skew.proofs.Combining.{coef_combined}
 use Rattle.skew.proofs.Evaluation
-use Rattle.skew.proofs.Everywhere.{all_append, all_map, all_so}
+use Rattle.skew.proofs.Everywhere.{all_append, all_map}
 use Rattle.skew.proofs.Multiplication
+use Rattle.skew.proofs.Coefficients
 use Rattle.skew.proofs.Multiplication.{shift, times}
-use Rattle.skew.proofs.PairSteps
+use Rattle.skew.proofs.PairDegrees
 use Rattle.recovery.specs.Preparation.{turned}
 use Rattle.recovery.proofs.Degrees
 use Rattle.recovery.proofs.Placewise
@@ -76,18 +80,18 @@ module _ {F : Type 0} {o : Ops F} (l : Laws o) where
   top_times : (a k : ℕ) (u M : List F) → Degree o u a → Degree o M k → coef o (times o u M) (a +ℕ k) ≢ zero
   top_times a k [] M h g e = h.0 refl
   top_times ℕ.zero k (c ∷ u) M h g e =
-      Basics.mul_nonzero l c (coef o M k) h.0 g.0
+      Inverses.mul_nonzero l c (coef o M k) h.0 g.0
       (sym (Multiplication.coef_times l c u M k ∙ ap (λ w. c * coef o M k + w) (Degrees.times_null l u (shift o M) (λ j. h.1 (suc j) (omega arith)) k) ∙ Basics.add_zero l _)
       ∙ ap (coef o (times o (c ∷ u) M)) place ∙ e)
     where
       place : k ≡ 0 +ℕ k
       place = omega arith
   top_times (suc a) k (c ∷ u) M h g e =
-      top_times a (suc k) u (shift o M) (h.0, λ i m. h.1 (suc i) (omega arith)) (higher, PairSteps.below_shift l (suc k) (suc (suc k)) M (omega arith) g.1)
+      top_times a (suc k) u (shift o M) (h.0, λ i m. h.1 (suc i) (omega arith)) (higher, PairDegrees.below_shift l (suc k) (suc (suc k)) M (omega arith) g.1)
       (ap (coef o (times o u (shift o M))) place ∙ sym (low ∙ Basics.zero_add l _) ∙ sym (Multiplication.coef_times l c u M (suc a +ℕ k)) ∙ e)
     where
       higher : coef o (shift o M) (suc k) ≢ zero
-      higher z = Basics.twist_nonzero l (coef o M k) g.0 (sym (Multiplication.coef_twist l M k) ∙ z)
+      higher z = Twists.twist_nonzero l (coef o M k) g.0 (sym (Coefficients.coef_twist l M k) ∙ z)
 
       place : a +ℕ suc k ≡ suc a +ℕ k
       place = omega arith
@@ -151,8 +155,8 @@ module _ {F : Type 0} {o : Ops F} (l : Laws o) where
     at_all : (first others : List (Spot F)) → AllByRecursion (Met o M f) first → AllByRecursion (λ s. worth o (record { q0 = u; q1 = v }) s ≡ zero) (map (turned o M f) others)
         → AllByRecursion (λ s. worth o (joined o p q v) s ≡ zero) (first ++ others)
     at_all first others h g =
-        all_append (λ s. worth o (joined o p q v) s ≡ zero) first others (all_so (Met o M f) (λ s. worth o (joined o p q v) s ≡ zero) at_met first h)
-        (all_so (λ s. worth o (record { q0 = u; q1 = v }) (turned o M f s) ≡ zero) (λ s. worth o (joined o p q v) s ≡ zero) at_turned others
+        all_append (λ s. worth o (joined o p q v) s ≡ zero) first others (all_follow (Met o M f) (λ s. worth o (joined o p q v) s ≡ zero) at_met first h)
+        (all_follow (λ s. worth o (record { q0 = u; q1 = v }) (turned o M f s) ≡ zero) (λ s. worth o (joined o p q v) s ≡ zero) at_turned others
         (all_map (λ s. worth o (record { q0 = u; q1 = v }) s ≡ zero) (turned o M f) others g))
 
   -- Pairs carried through the other spots, turned, are pairs carried through all.

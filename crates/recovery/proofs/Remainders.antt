@@ -4,12 +4,13 @@
 --   quotient_less      if g is the quotient of n by v, then f less g is that of v × f less n
 use Rattle.std.proofs.Common.{◌≡◌, ℕ, suc, ◌-◌, ◌≤◌, List, length, sym, refl, ap, ◌∙◌, arith}
 use Rattle.fields.specs.Field.{Ops, Laws, plus, scale}
-use Rattle.fields.specs.Basics.{ring, twists}
+use Rattle.fields.specs.Basics.{ring}
+use Rattle.fields.specs.Twists.{twists}
 use Rattle.skew.specs.Values.{twisted}
 use Rattle.skew.specs.Products.{coef, total, coefficient}
 use Rattle.skew.specs.Quotients.{Quotient}
 use Rattle.skew.proofs.Combining.{coef_combined, length_combined}
-use Rattle.skew.proofs.Multiplication
+use Rattle.skew.proofs.Coefficients
 use Rattle.skew.proofs.Sums
 
 module _ {F : Type 0} {o : Ops F} (l : Laws o) where
@@ -44,7 +45,7 @@ module _ {F : Type 0} {o : Ops F} (l : Laws o) where
   -- So do products on the right.
   coefficient_minus : (v f g h : List F) → ((i : ℕ) → coef o h i ≡ coef o f i + neg (coef o g i)) → (n : ℕ) → coefficient o v h n ≡ coefficient o v f n + neg (coefficient o v g n)
   coefficient_minus v f g h e n =
-      Multiplication.total_same l (term v n h) (λ i. term v n f i + neg (term v n g i)) (suc n)
+      Coefficients.total_same l (term v n h) (λ i. term v n f i + neg (term v n g i)) (suc n)
       (λ i k. ap (λ w. coef o v i * twisted o i w) (e (n - i)) ∙ ap (λ w. coef o v i * w) (twisted_minus i (coef o f (n - i)) (coef o g (n - i)))
       ∙ spread (coef o v i) (twisted o i (coef o f (n - i))) (twisted o i (coef o g (n - i))))
       ∙ total_minus (term v n f) (term v n g) (suc n)

@@ -12,9 +12,9 @@ use Rattle.codes.specs.Holdings.{held, stops}
 use Rattle.hints.specs.Splittings.{Given, Parts, Splitting, row_count, column_count, Everywhere}
 use Rattle.hints.proofs.Likeness
 use Rattle.hints.proofs.Likeness.{Like}
-use Rattle.hints.proofs.Judging.{places_in}
+use Rattle.hints.proofs.CodePlaces.{places_in}
 use Rattle.recovery.specs.Reach.{apart, AlikeHints, SpansOnly}
-use Rattle.recovery.proofs.Candidacy.{lengths_cut}
+use Rattle.recovery.proofs.ShownSites.{lengths_cut}
 
 module _ {m : Meaning} (l : Laws m) where
   -- The laws of the elements.

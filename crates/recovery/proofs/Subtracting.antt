@@ -9,7 +9,7 @@ use Rattle.fields.specs.Basics.{ring}
 use Rattle.fields.proofs.Carrier
 use Rattle.fields.specs.Rows
 use Rattle.skew.specs.Polynomials.{combined}
-use Rattle.skew.proofs.Multiplication
+use Rattle.skew.proofs.Coefficients
 use Rattle.skew.proofs.Sums.{cons_path}
 use Rattle.codes.proofs.Holding
 use Rattle.codes.proofs.Holding.{Filling}
@@ -56,4 +56,4 @@ module _ {m : Meaning} (l : Laws m) where
       value =
           Carrier.sums m (get_or w i 0) x ey ∙ ap (λ z. (ops m).add z (elem m x)) (Carrier.elem_at m w i)
           ∙ ap ((ops m).add (get_or (elems m w) i (ops m).zero)) (Carrier.negates m (get_or v i 0) ex ∙ ap (ops m).neg (Carrier.elem_at m v i) ∙ sym (Degrees.coef_neg laws (elems m v) i))
-          ∙ sym (Multiplication.coef_plus laws (elems m w) (map (ops m).neg (elems m v)) i)
+          ∙ sym (Coefficients.coef_plus laws (elems m w) (map (ops m).neg (elems m v)) i)

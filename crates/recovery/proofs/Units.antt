@@ -4,14 +4,13 @@
 --   Rebuilding m fs ys j f   so it is wherever the fs belong to the points
 --   Collected P j xs         of 24 things the first j are as P says
 use Rattle.std.proofs.Common.{◌≡◌, ℕ, ◌+◌, ◌-◌, ◌<◌, ◌≤◌, List, [], map, length, get_or, take, set, replicate, sym, ap, ◌∙◌, subst, ap₂, inl, inr, arith, length-set}
-use Rattle.std.proofs.lemmas.List.{length-map}
-use Rattle.std.proofs.lemmas.List.{get_or-map, get_or-set_same, get_or-set_other, get_or-replicate, get_or_past, length-take-le, length-replicate, take-map}
+use Rattle.std.proofs.lemmas.List.{length-map, get_or-map, get_or-set_same, get_or-set_other, get_or-replicate, get_or_past, length-take-le, length-replicate, take-map}
 use Rattle.std.proofs.lemmas.Bool.{cases_lt}
 use Rattle.std.specs.List.{AllByRecursion}
 use Rattle.fields.specs.Field as field
 use Rattle.fields.specs.Meaning.{Meaning, Laws}
 use Rattle.fields.specs.Elements.{Elem, elem, elems, codes, ops}
-use Rattle.fields.specs.Basics
+use Rattle.fields.specs.Inverses
 use Rattle.fields.specs.Basics.{ring}
 use Rattle.fields.proofs.Carrier
 use Rattle.skew.specs.declared.points.Point.{Point}
@@ -184,7 +183,7 @@ module _ {m : Meaning} (l : Laws m) where
 
         exact : kills.annihilator.monic.0 ≡ c.dimension → Degree (ops m) (elems m f) c.dimension
         exact e = (
-          (λ z. Basics.one_zero laws (sym kills.annihilator.monic.2 ∙ ap (coef (ops m) (elems m f)) e ∙ z)),
+          (λ z. Inverses.one_zero laws (sym kills.annihilator.monic.2 ∙ ap (coef (ops m) (elems m f)) e ∙ z)),
           (λ i h. get_or_past (elems m f) i (ops m).zero (omega (arith, h, e, kills.annihilator.monic.1))),
         )
 

@@ -21,7 +21,7 @@ use Rattle.codes.specs.Holdings.{held, stops}
 use Rattle.hints.specs.declared.block.BlockHints.{BlockHints}
 use Rattle.hints.specs.Holdings.{no_block}
 use Rattle.hints.specs.Shown.{from_digits}
-use Rattle.hints.proofs.Judging.{places_in}
+use Rattle.hints.proofs.CodePlaces.{places_in}
 use Rattle.recovery.specs.Steps.{no_point, hint_points, all_hint_points}
 
 module _ {A B : Type 0} (g : A → B) where

@@ -1,5 +1,5 @@
 // Recovery without hints, by what was prepared for the code.
-ghost use Rattle.std.specs.Prelude.{◌≡◌, ◌≤◌, List, map, length, drop, replicate, MatchOption};
+ghost use Rattle.std.specs.Prelude.{◌≡◌, ◌≢◌, ◌≤◌, List, map, length, drop, replicate, IsNone, MatchOption};
 ghost use Rattle.fields.specs.Elements.{Elem, elems, codes, ops};
 ghost use Rattle.skew.specs.declared.points.Point.{Point};
 ghost use Rattle.skew.specs.Polynomials.{coefficients};
@@ -113,6 +113,7 @@ pub fn recover_by<K: Kind>(
 ) -> Option<Recovery>
     ensures spans { let m = K.meaning kind.now in let c = code.now in
         (length word.now ≡ length (stops c.course) → SpansOnly m c (elems m word.now)) }
+    ensures other { (length word.now ≢ length (stops code.now.course) → IsNone result) }
     ensures exact { let m = K.meaning kind.now in let c = code.now in let w = elems m word.now in
         (LawfulCode m c → Prepares m c prepared.now → length word.now ≡ length (stops c.course)
         → (gs : List (Given (Elem m))) → Holds m (held c.lengths) c.dimension hints.now gs

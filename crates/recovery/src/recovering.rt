@@ -1,5 +1,5 @@
 // Recovery of a codeword from a word that is wrong in places, with hints.
-ghost use Rattle.std.specs.Prelude.{◌≡◌, List, map, length, take, MatchOption};
+ghost use Rattle.std.specs.Prelude.{◌≡◌, ◌≢◌, List, map, length, take, IsNone, MatchOption};
 ghost use Rattle.fields.specs.Field.{plus};
 ghost use Rattle.fields.specs.Elements.{Elem, elems, codes, ops};
 ghost use Rattle.skew.specs.Polynomials.{coefficients};
@@ -100,6 +100,7 @@ pub fn weighed<K: Kind>(
 pub fn recover<K: Kind>(kind: &K, code: &Code, hints: &Hints, word: &[u8]) -> Option<Recovery>
     ensures spans { let m = K.meaning kind.now in let c = code.now in
         (length word.now ≡ length (stops c.course) → SpansOnly m c (elems m word.now)) }
+    ensures other { (length word.now ≢ length (stops code.now.course) → IsNone result) }
     ensures exact { let m = K.meaning kind.now in let c = code.now in let w = elems m word.now in
         (LawfulCode m c → length word.now ≡ length (stops c.course) → (gs : List (Given (Elem m))) → Holds m (held c.lengths) c.dimension hints.now gs
         → MatchOption result ((v : List (Elem m)) → ¬ InReach m c gs w v) (λ x. Recovered m c gs w x)) }

@@ -13,7 +13,7 @@ ghost use Rattle.recovery.specs.Sites.{sites_in};
 use super::spots::Spots;
 use codes::Code;
 use fields::Kind;
-use hints::{Hints, row_of};
+use hints::{Hints, padded_row};
 use ranks::{Form, Row, cleared};
 use skew::{Point, Polynomial, Site, value};
 
@@ -45,7 +45,7 @@ fn add_sites<K: Kind>(
     let parameter = points[0].parameter;
     let places = locator_row(points);
     let locators = cleared(kind, columns, &places);
-    let received = row_of(symbols);
+    let received = padded_row(symbols);
     let left = cleared(kind, columns, &received);
     // by index, since a form and two rows are read at one place
     for p in 0..points.len() {

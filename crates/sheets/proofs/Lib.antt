@@ -1,4 +1,5 @@
 mod Steps
 mod Fronts
-mod Verdicts
+pub mod ComputedFronts
+pub mod Verdicts
 pub mod Certainty

@@ -1,99 +1,15 @@
 -- The grammar has one answer for every byte string: the answer can be computed, and both relations agree with it.
---     Verdict, spelt, stopped    a sheet with the bytes behind it, or a refusal of the front
---     limited, counted           one byte from low to high; a count and as many bytes; `next` goes on from there
---     measured, closing, front   the lengths; the dimension and all behind it; all
---     sections, places, ending   parameters and locators; locators; what is then spelt
---     total                      how many bytes there are
---     final                      the answer where no byte may follow
-use Rattle.std.proofs.Common.{◌≡◌, ℕ, zero, suc, ◌+◌, ◌-◌, ◌<◌, ◌≤◌, min, true, false, cond, ◌&&◌, eqb, leb, ◌≢◌, ◌⊎◌, List, [], ◌∷◌, ◌++◌, length, take, drop, sum, sym, refl, ap, ◌∙◌, subst, inl, inr, add-zero, suc-add, zero-add, arith}
-use Rattle.std.specs.List.{AllByRecursion}
-use Rattle.std.proofs.lemmas.List.{append_assoc, append-nil, length-append, take_at, drop_at}
-use Rattle.std.proofs.lemmas.List.Sums.{sum_by-cons, sum_by_push}
-use Rattle.std.proofs.lemmas.Bool.{le-leb, lt-leb, eq-eqb, ne_eqb, and_from, and_left, and_right, cond-true, cond-false}
+--
+--     Looks, wanted    after some bytes the computation looks at a byte within its limits, and it is the byte that is wanted
+--     verdict          what is computed of the front
+--     final            the answer where no byte may follow
+use Rattle.std.proofs.Common.{◌≡◌, ℕ, suc, ◌+◌, ◌-◌, min, ◌≢◌, List, [], ◌∷◌, ◌++◌, length, sum, sym, refl, ap, ◌∙◌, subst, add-zero, arith}
+use Rattle.std.proofs.lemmas.List.{append_assoc, append-nil, length-append}
+use Rattle.std.proofs.lemmas.Bool.{eq-eqb, ne_eqb, cond-true, cond-false}
 use Rattle.sheets.specs.declared.faults.Fault.{Fault}
-use Rattle.sheets.specs.declared.faults.Reason.{Reason}
 use Rattle.sheets.specs.declared.faults.Reason.TheVariants.{MissingByte, ExtraBytes, OtherKind, Limit}
-use Rattle.sheets.specs.Faults.{at_sheet}
-use Rattle.sheets.specs.Sheets.{Text, opening, to_parameters, spelled, Blocks, Length, Lengths, Opens, Wants, block_count, block_length, parameter_count, locator_count, Short, at_kind, at_dimension, at_wanted, at_parameter, at_locator, Broken, kind, missing, limit, dimension, Begins, Spells, Refused, broken, extra}
-
-pub data Verdict : Type 0 where
-  spelt : Text → List ℕ → Verdict
-  stopped : Fault → Verdict
-
-abbrev stop : Reason → ℕ → Verdict
-stop reason place = stopped (at_sheet reason place)
-
-abbrev limited : (total low high : ℕ) → (ℕ → List ℕ → Verdict) → List ℕ → Verdict
-limited total low high next [] = stop MissingByte total
-limited total low high next (x ∷ v) = cond (leb low x && leb x high) (next x v) (stop Limit (total - suc (length v)))
-
-abbrev counted : (total count : ℕ) → (List ℕ → List ℕ → Verdict) → List ℕ → Verdict
-counted total count next = limited total count count (λ x v. cond (leb count (length v)) (next (take count v) (drop count v)) (stop MissingByte total))
-
-abbrev measured : (total count : ℕ) → List ℕ → (List ℕ → List ℕ → Verdict) → List ℕ → Verdict
-measured total zero ls next v = next ls v
-measured total (suc count) ls next v = limited total 1 (min 8 (24 - sum ls)) (λ x w. measured total count (ls ++ x ∷ []) next w) v
-
-abbrev ending : ℕ → (ls ps xs v : List ℕ) → Verdict
-ending k ls ps xs v = spelt (record { dimension = k; blocks = ls; parameters = ps; locators = xs }) v
-
-abbrev places : (total k : ℕ) → (ls ps v : List ℕ) → Verdict
-places total k ls ps v = counted total (sum ls) (ending k ls ps) v
-
-abbrev sections : (total k : ℕ) → (ls v : List ℕ) → Verdict
-sections total k ls v = counted total (length ls) (places total k ls) v
-
-abbrev closing : (total k : ℕ) → List ℕ → List ℕ → Verdict
-closing total k ls v = cond (leb 1 k && leb k (sum ls)) (sections total k ls v) (stop Limit 1)
-
-abbrev front : (number total : ℕ) → List ℕ → Verdict
-front number total [] = stop MissingByte total
-front number total (x ∷ []) = cond (eqb x number) (stop MissingByte total) (stop OtherKind 0)
-front number total (x ∷ (k ∷ v)) =
-    cond (eqb x number) (limited total 1 12 (λ l w. measured total l [] (closing total k) w) v) (stop OtherKind 0)
-
--- A number within its limits passes the test.
-within : (low high x : ℕ) → low ≤ x → x ≤ high → (leb low x && leb x high) ≡ true
-within low high x l h = and_from _ _ (le-leb low x l) (le-leb x high h)
-
--- One outside does not.
-outside : (low high x : ℕ) → (x < low) ⊎ (high < x) → (leb low x && leb x high) ≡ false
-outside low high x (inl h) = and_left _ _ (lt-leb low x h)
-outside low high x (inr h) = and_right _ _ (lt-leb x high h)
-
--- A byte within its limits is passed.
-limited_in : (total low high : ℕ) (next : ℕ → List ℕ → Verdict) (x : ℕ) (v : List ℕ) → low ≤ x → x ≤ high → limited total low high next (x ∷ v) ≡ next x v
-limited_in total low high next x v l h = cond-true _ _ _ (within low high x l h)
-
--- Lengths within their limits are passed.
-measured_along : (total count : ℕ) (ls ms : List ℕ) (next : List ℕ → List ℕ → Verdict) (v : List ℕ) → AllByRecursion Length ms → sum ls + sum ms ≤ 24 → measured total (length ms + count) ls next (ms ++ v) ≡ measured total count (ls ++ ms) next v
-measured_along total count ls [] next v a h = rw (zero-add, append-nil)
-measured_along total count ls (x ∷ ms) next v (a, others) h =
-    let s : sum (x ∷ ms) ≡ x + sum ms = sum_by-cons (λ y. y) x ms in
-    let p : sum (ls ++ x ∷ []) ≡ sum ls + x = sum_by_push (λ y. y) ls x in
-    let more : x ≤ min 8 (24 - sum ls) = omega arith in
-    let least : 1 ≤ x = a.0 in
-    let again = measured_along total count (ls ++ x ∷ []) ms next v others (omega arith) in
-    rw suc-add
-    (limited_in total 1 (min 8 (24 - sum ls)) (λ y w. measured total (length ms + count) (ls ++ y ∷ []) next w) x (ms ++ v) least more
-    ∙ again ∙ ap (λ (r : List ℕ). measured total count r next v) (append_assoc ls (x ∷ []) ms))
-
--- A section that is all there is passed.
-counted_in : (total count : ℕ) (next : List ℕ → List ℕ → Verdict) (xs v : List ℕ) → length xs ≡ count → counted total count next (count ∷ (xs ++ v)) ≡ next xs v
-counted_in total count next xs v e =
-    let h : count ≤ length (xs ++ v) = simp length-append (omega arith) in
-    let low : count ≤ count = omega arith in
-    limited_in total count count (λ x w. cond (leb count (length w)) (next (take count w) (drop count w)) (stop MissingByte total)) count (xs ++ v) low low
-    ∙ cond-true _ _ _ (le-leb count (length (xs ++ v)) h)
-    ∙ ap (λ (r : List ℕ). next r (drop count (xs ++ v))) (take_at xs v count e)
-    ∙ ap (λ (r : List ℕ). next xs r) (drop_at xs v count e)
-
--- A section that runs out is refused.
-counted_short : (total count : ℕ) (next : List ℕ → List ℕ → Verdict) (xs : List ℕ) → length xs < count → counted total count next (count ∷ xs) ≡ stop MissingByte total
-counted_short total count next xs h =
-    let low : count ≤ count = omega arith in
-    limited_in total count count (λ x w. cond (leb count (length w)) (next (take count w) (drop count w)) (stop MissingByte total)) count xs low low
-    ∙ cond-false _ _ _ (lt-leb count (length xs) h)
+use Rattle.sheets.specs.Sheets.{Text, opening, to_parameters, spelled, Blocks, Lengths, Opens, Wants, block_count, block_length, parameter_count, locator_count, Short, at_kind, at_dimension, at_wanted, at_parameter, at_locator, Broken, kind, missing, limit, dimension, Begins, Spells, Refused, broken, extra}
+use Rattle.sheets.proofs.ComputedFronts.{Verdict, closing, counted_in, counted_short, ending, front, limited, limited_in, measured, measured_along, outside, places, sections, spelt, stop, stopped, within}
 
 -- The kind number that is asked for is passed.
 front_kind : (number total k : ℕ) (v : List ℕ) → front number total (number ∷ (k ∷ v)) ≡ limited total 1 12 (λ l w. measured total l [] (closing total k) w) v

@@ -2,15 +2,15 @@
 --
 --   Adding        after i coefficients of p: x is c twisted i times
 --   Multiplying   after j coefficients of g: the sum is the product of f with those, as far as it reaches
-use Rattle.std.proofs.Common.{◌≡◌, ℕ, suc, ◌+◌, ◌-◌, ◌<◌, ◌≤◌, min, ◌≢◌, List, [], ◌∷◌, length, get_or, take, drop, set, sym, refl, ap, ◌∙◌, subst, inl, inr, add-one, arith, length-set, get_or-set_other, get_or-set_same}
+use Rattle.std.proofs.Common.{◌≡◌, ℕ, ◌+◌, ◌-◌, ◌<◌, ◌≤◌, min, ◌≢◌, List, [], length, get_or, take, set, sym, refl, ap, ◌∙◌, subst, inl, inr, add-one, arith, length-set, get_or-set_other, get_or-set_same}
 use Rattle.std.proofs.Math.Decide.{ℕ_discrete}
 use Rattle.std.proofs.lemmas.List.{length-map}
 use Rattle.std.proofs.Math.ListN.{get_or-eq_default}
 use Rattle.std.proofs.lemmas.List.{get_or-take, get_or_past, length-take, take_all}
 use Rattle.std.proofs.lemmas.Bool.{cases_lt}
 use Rattle.fields.specs.Field as field
-use Rattle.fields.specs.Meaning.{Meaning, Laws, Code, clip}
-use Rattle.fields.specs.Elements.{Elem, elem, elems, codes, ops}
+use Rattle.fields.specs.Meaning.{Meaning, Laws, clip}
+use Rattle.fields.specs.Elements.{Elem, elem, elems, ops}
 use Rattle.fields.specs.Basics.{ring}
 use Rattle.fields.proofs.Carrier
 use Rattle.skew.specs.Values.{twisted}
@@ -20,6 +20,8 @@ use Rattle.skew.specs.Few.{Resized}
 use Rattle.skew.proofs.Multiplication
 use Rattle.skew.proofs.Multiplication.{times}
 use Rattle.skew.proofs.Division
+use Rattle.skew.proofs.Resizing
+use Rattle.skew.proofs.Resizing.{zeros_null}
 
 pub record Adding (m : Meaning) (p : List ℕ) (j c : ℕ) (r : List ℕ) (i x : ℕ) (s : List ℕ) : Type 0 where
   pub twists : elem m x ≡ twisted (ops m) i (elem m c)
@@ -34,35 +36,20 @@ pub record Multiplying (m : Meaning) (f g : List ℕ) (j : ℕ) (sum : List ℕ)
   pub proper : Codes m sum
   pub is : (l : ℕ) → l < length sum → coef (ops m) (elems m sum) l ≡ coefficient (ops m) (elems m f) (elems m (take j g)) l
 
--- What is resized from nothing is all zeros.
-pub zeros_null : {e out : List ℕ} {k : ℕ} → e ≡ [] → Resized 48 e k out → (i : ℕ) → get_or out i 0 ≡ 0
-zeros_null {e} {out} {k} ee z i = elim (cases_lt i (length out)) [ inl h ↦ z.same i h ∙ ap (λ y. get_or y i 0) ee | inr h ↦ get_or_past out i 0 h ]
-
 module _ {m : Meaning} (l : Laws m) where
   -- The laws of the elements.
   abbrev laws : field.Laws (ops m)
   laws = Carrier.ops_laws l
 
-  -- A list is in codes exactly where each of its numbers counts as itself.
-  pub codes_by : (f : List ℕ) → ((i : ℕ) → clip m (get_or f i 0) ≡ get_or f i 0) → Codes m f
-  codes_by [] h = refl
-  codes_by (x ∷ f) h = ap (λ y. y ∷ codes (elems m f)) (sym (Carrier.code_elem m x (h 0))) ∙ ap (λ ys. x ∷ ys) (codes_by f (λ i. h (suc i)))
-
-  -- The other way.
-  pub counted_by : (f : List ℕ) → Codes m f → (i : ℕ) → clip m (get_or f i 0) ≡ get_or f i 0
-  counted_by [] h i = Carrier.zero_counts l
-  counted_by (x ∷ f) h ℕ.zero = Carrier.counts l x (subst (λ y. Code m y) (ap (λ ys. get_or ys 0 0) h) (Carrier.is_code l (elem m x)))
-  counted_by (x ∷ f) h (suc i) = counted_by f (ap (drop 1) h) i
-
   -- A list stays in codes with another code at a place.
   codes_set : (f : List ℕ) (i : ℕ) {x : ℕ} → clip m x ≡ x → Codes m f → Codes m (set f i x)
-  codes_set f i {x} c h = codes_by (set f i x) go
+  codes_set f i {x} c h = Resizing.codes_by l (set f i x) go
     where
       go : (k : ℕ) → clip m (get_or (set f i x) k 0) ≡ get_or (set f i x) k 0
       go k = elim (cases_lt k (length f)) [
         | inl q ↦ elim (ℕ_discrete k i) [
           | yes e ↦ (let n : get_or (set f i x) k 0 ≡ x = ap (λ z. get_or (set f i x) z 0) e ∙ get_or-set_same f i x 0 (omega arith) in ap (clip m) n ∙ c ∙ sym n)
-          | no ne ↦ (let n = get_or-set_other f i k x 0 ne in ap (clip m) n ∙ counted_by f h k ∙ sym n)
+          | no ne ↦ (let n = get_or-set_other f i k x 0 ne in ap (clip m) n ∙ Resizing.counted_by l f h k ∙ sym n)
         ]
         | inr q ↦ (let n : get_or (set f i x) k 0 ≡ 0 = get_or_past (set f i x) k 0 (omega (arith, length-set f i x)) in ap (clip m) n ∙ Carrier.zero_counts l ∙ sym n)
       ]
@@ -123,7 +110,7 @@ module _ {m : Meaning} (l : Laws m) where
   pub multiply_starts : {f g e sum : List ℕ} {n : ℕ} → length f + length g ≤ 49 → n ≡ length f + length g - 1 → e ≡ [] → Resized 48 e n sum → Multiplying m f g 0 sum
   multiply_starts {f} {g} {e} {sum} {n} room en ee z = record {
     size = omega (arith, z.size);
-    proper = codes_by sum (λ i. ap (clip m) (zeros_null ee z i) ∙ Carrier.zero_counts l ∙ sym (zeros_null ee z i));
+    proper = Resizing.codes_by l sum (λ i. ap (clip m) (zeros_null ee z i) ∙ Carrier.zero_counts l ∙ sym (zeros_null ee z i));
     is = λ k h. sym (Carrier.elem_at m sum k) ∙ ap (elem m) (zeros_null ee z k) ∙ Carrier.zero_is m ∙ sym (Division.coefficient_null laws (elems m f) [] (λ i. refl) k);
   }
 

@@ -12,6 +12,7 @@ use Rattle.fields.specs.Field as field
 use Rattle.fields.specs.Meaning.{Meaning, Laws, clip}
 use Rattle.fields.specs.Elements.{Elem, elem, elems, codes, ops}
 use Rattle.fields.specs.Basics
+use Rattle.fields.specs.Twists
 use Rattle.fields.proofs.Carrier
 use Rattle.skew.specs.declared.points.Site.{Site}
 use Rattle.skew.specs.declared.pairing.Pair.{Pair}
@@ -24,7 +25,7 @@ use Rattle.skew.proofs.Filling.{uncut}
 use Rattle.skew.proofs.Combining.{length_is, length_raised}
 use Rattle.skew.proofs.Growing.{code_of_zero}
 use Rattle.skew.proofs.PairSteps
-use Rattle.skew.proofs.PairSteps.{lifted, lift, cross}
+use Rattle.skew.proofs.PairDegrees.{lifted, lift, cross}
 
 -- A pair from its parts, so that equations of parts make equations of pairs.
 abbrev both : {F : Type 0} → List F → List F → Two F
@@ -55,13 +56,13 @@ module _ {m : Meaning} (l : Laws m) where
   pub any_root : (a v c : ℕ) → elem m v ≡ (ops m).zero → Root m a v c
   any_root a v c z = record {
     is = ap ((ops m).mul (elem m c)) z ∙ Basics.mul_zero laws (elem m c)
-        ∙ sym (ap (step (ops m) (elem m a)) z ∙ ap (λ w. (ops m).mul w (elem m a)) (Basics.twist_zero laws) ∙ Basics.zero_mul laws (elem m a));
+        ∙ sym (ap (step (ops m) (elem m a)) z ∙ ap (λ w. (ops m).mul w (elem m a)) (Twists.twist_zero laws) ∙ Basics.zero_mul laws (elem m a));
   }
 
   -- So the root where there is one, and else 0.
-  pub any_root_or : (a v : ℕ) (r : Option ℕ) {c : ℕ} → MatchOption r (elem m v ≡ (ops m).zero) (λ x. Root m a v x) → c ≡ unwrap_or r 0 → Root m a v c
+  pub any_root_or : (a v : ℕ) (r : Option ℕ) {c : ℕ} → MatchOption r (elem m v ≡ (ops m).zero) (λ x. (elem m v ≢ (ops m).zero) × Root m a v x) → c ≡ unwrap_or r 0 → Root m a v c
   any_root_or a v None z e = subst (Root m a v) (sym e) (any_root a v 0 z)
-  any_root_or a v (Some x) h e = subst (Root m a v) (sym e) h
+  any_root_or a v (Some x) h e = subst (Root m a v) (sym e) h.1
 
   -- A code is 0 exactly where its element is zero.
   zero_of : {x : ℕ} (v : Elem m) → x ≡ v.code → v ≡ (ops m).zero → x ≡ 0

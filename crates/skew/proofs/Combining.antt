@@ -15,7 +15,7 @@ use Rattle.fields.specs.Elements.{Elem, elem, elems, codes, ops}
 use Rattle.fields.proofs.Carrier
 use Rattle.skew.specs.Products.{coef}
 use Rattle.skew.specs.Polynomials.{combined, raised}
-use Rattle.skew.proofs.Multiplication
+use Rattle.skew.proofs.Coefficients
 use Rattle.skew.proofs.Multiplication.{shift}
 use Rattle.skew.proofs.Filling.{Filling, same_cell, unfilled, next_code, fill, filled}
 
@@ -23,7 +23,7 @@ module _ {F : Type 0} {o : field.Ops F} (l : field.Laws o) where
   -- A coefficient of a sum of multiples, and how many there are.
   pub coef_combined : (c d : F) (f g : List F) (i : ℕ) → coef o (plus o (scale o c f) (scale o d g)) i ≡ o.add (o.mul c (coef o f i)) (o.mul d (coef o g i))
   coef_combined c d f g i =
-      Multiplication.coef_plus l (scale o c f) (scale o d g) i ∙ ap (λ w. o.add w (coef o (scale o d g) i)) (Multiplication.coef_scale l c f i) ∙ ap (o.add _) (Multiplication.coef_scale l d g i)
+      Coefficients.coef_plus l (scale o c f) (scale o d g) i ∙ ap (λ w. o.add w (coef o (scale o d g) i)) (Coefficients.coef_scale l c f i) ∙ ap (o.add _) (Coefficients.coef_scale l d g i)
 
   -- How many coefficients a sum of multiples has.
   pub length_combined : (c d : F) (f g : List F) → length (plus o (scale o c f) (scale o d g)) ≡ max (length f) (length g)
@@ -31,7 +31,7 @@ module _ {F : Type 0} {o : field.Ops F} (l : field.Laws o) where
 
   -- A coefficient of (x - c) × g.
   pub coef_raised : (c : F) (g : List F) (i : ℕ) → coef o (plus o (scale o c g) (shift o g)) i ≡ o.add (o.mul c (coef o g i)) (coef o (shift o g) i)
-  coef_raised c g i = Multiplication.coef_plus l (scale o c g) (shift o g) i ∙ ap (λ w. o.add w (coef o (shift o g) i)) (Multiplication.coef_scale l c g i)
+  coef_raised c g i = Coefficients.coef_plus l (scale o c g) (shift o g) i ∙ ap (λ w. o.add w (coef o (shift o g) i)) (Coefficients.coef_scale l c g i)
 
 pub record Combining (cap : ℕ) (m : Meaning) (c d n : ℕ) (before g : List ℕ) (i len : ℕ) (cells : List ℕ) : Type 0 where
   pub filling : Filling cap (combined m c (take n before) d g) before i cells
@@ -121,7 +121,7 @@ module _ {m : Meaning} (l : Laws m) where
       let e3 = Carrier.twists m x eb in
       let gx = Carrier.elem_at m g i in
       let k = coef_raised laws ((ops m).neg (elem m c)) (elems m g) i in
-      let t = Multiplication.coef_twist laws (elems m g) i in
+      let t = Coefficients.coef_twist laws (elems m g) i in
       let b = r.is in
       let e : elem m y ≡ coef (ops m) (raised m c g) i = cc in
       let s : elem m below' ≡ coef (ops m) (map (ops m).twist (elems m g)) i = cc in

@@ -1,82 +1,27 @@
--- The loops of `left_quotient` and its parts, over plain numbers.
+-- The loop of `left_quotient`, over plain numbers.
 --
---   Resizing       after i coefficients
---   Clear          no coefficient from i on is other than zero
---   Untwisting     after i turns
 --   Subtracted     s is r less p × (c times the j-th power), as far as r reaches
 --   Dividing       with j coefficients to go: out has zeros there, and the rest is the dividend less divisor × out, zero from d + j on
-use Rattle.std.proofs.Common.{◌≡◌, ℕ, suc, ◌+◌, ◌-◌, ◌<◌, ◌≤◌, min, ◌≢◌, List, [], ◌∷◌, ◌++◌, length, get_or, take, drop, set, Some, None, sym, refl, ap, ◌∙◌, subst, inl, inr, add-one, arith, length-set, get_or-set_other, get_or-set_same}
+use Rattle.std.proofs.Common.{◌≡◌, ℕ, suc, ◌+◌, ◌-◌, ◌<◌, ◌≤◌, ◌≢◌, List, [], length, get_or, set, sym, ap, ◌∙◌, inl, inr, arith, length-set, get_or-set_other, get_or-set_same}
 use Rattle.std.proofs.Math.Decide.{ℕ_discrete}
 use Rattle.std.proofs.lemmas.List.{length-map}
-use Rattle.std.proofs.Math.ListN.{get_or-eq_default}
-use Rattle.std.proofs.lemmas.List.{get_or-take, get_or_past, length-take, length_push}
 use Rattle.std.proofs.lemmas.Bool.{cases_lt}
-use Rattle.std.specs.List.{AllByRecursion}
-use Rattle.fields.specs.Field.{Zero}
 use Rattle.fields.specs.Field as field
-use Rattle.fields.specs.Meaning.{Meaning, Laws, Code, clip, inverted}
-use Rattle.fields.specs.Elements.{Elem, elem, elems, codes, ops}
+use Rattle.fields.specs.Meaning.{Meaning, Laws, clip}
+use Rattle.fields.specs.Elements.{Elem, elem, elems, ops}
+use Rattle.fields.specs.Inverses
 use Rattle.fields.specs.Basics
 use Rattle.fields.specs.Basics.{ring}
 use Rattle.fields.proofs.Carrier
 use Rattle.skew.specs.Values.{twisted}
-use Rattle.skew.specs.Products.{coef, coefficient, Below}
+use Rattle.skew.specs.Products.{coef, coefficient}
 use Rattle.skew.specs.Polynomials.{Codes, Added}
 use Rattle.skew.specs.Few.{Resized}
 use Rattle.skew.specs.Quotients.{Divided, Leads, Untwisted}
-use Rattle.skew.proofs.Multiplication
+use Rattle.skew.proofs.Coefficients
 use Rattle.skew.proofs.Division
-use Rattle.skew.proofs.Growing.{inverse_some, inverse_none}
-
--- What stands in a list with one element more.
-push_left : (xs : List ℕ) (x i : ℕ) → i < length xs → get_or (xs ++ x ∷ []) i 0 ≡ get_or xs i 0
-push_left [] x i h = absurd (omega arith)
-push_left (y ∷ xs) x ℕ.zero h = refl
-push_left (y ∷ xs) x (suc i) h = push_left xs x i (omega arith)
-
--- The new element.
-push_last : (xs : List ℕ) (x i : ℕ) → i ≡ length xs → get_or (xs ++ x ∷ []) i 0 ≡ x
-push_last [] x ℕ.zero h = refl
-push_last [] x (suc i) h = absurd (omega arith)
-push_last (y ∷ xs) x ℕ.zero h = absurd (omega arith)
-push_last (y ∷ xs) x (suc i) h = push_last xs x i (omega arith)
-
-pub record Resizing (cap : ℕ) (f : List ℕ) (i : ℕ) (out : List ℕ) : Type 0 where
-  pub size : length out ≡ min i cap
-  pub same : (l : ℕ) → l < length out → get_or out l 0 ≡ get_or f l 0
-
--- Before the first coefficient.
-pub resize_starts : {cap : ℕ} {f out : List ℕ} → out ≡ [] → Resizing cap f 0 out
-resize_starts {f = f} {out = out} e = record { size = omega (arith, ap length e); same = λ l h. absurd (omega (arith, ap length e)) }
-
--- One coefficient more, as far as there is room.
-pub resize_goes_on : {cap : ℕ} {f out out' : List ℕ} {i x : ℕ} → Resizing cap f i out → x ≡ get_or f i 0 → out' ≡ take cap (out ++ x ∷ []) → Resizing cap f (i + 1) out'
-resize_goes_on {cap} {f} {out} {out'} {i} {x} r ex eo = record { size = omega (arith, n, r.size); same = same }
-  where
-    n : length out' ≡ min cap (length out + 1)
-    n = ap length eo ∙ length-take cap (out ++ x ∷ []) ∙ ap (min cap) (length_push out x)
-
-    at : (l : ℕ) → l < cap → get_or out' l 0 ≡ get_or (out ++ x ∷ []) l 0
-    at l h = ap (λ z. get_or z l 0) eo ∙ get_or-take cap (out ++ x ∷ []) l 0 h
-
-    same : (l : ℕ) → l < length out' → get_or out' l 0 ≡ get_or f l 0
-    same l h = elim (cases_lt l (length out)) [
-      | inl k ↦ at l (omega (arith, n)) ∙ push_left out x l k ∙ r.same l k
-      | inr k ↦ (let e : l ≡ length out = omega (arith, n) in
-          let ei : i ≡ l = omega (arith, n, r.size) in
-          at l (omega (arith, n)) ∙ push_last out x l e ∙ ex ∙ ap (λ j. get_or f j 0) ei)
-    ]
-
--- After the last one.
-pub resize_ends : {cap : ℕ} {f out : List ℕ} {i n : ℕ} → n ≤ i → i ≤ n → Resizing cap f i out → Resized cap f n out
-resize_ends h k r = record { size = omega (arith, r.size); same = r.same }
-
-pub record Clear (m : Meaning) (f : List ℕ) (i : ℕ) : Type 0 where
-  pub null : Below (ops m) i (elems m f)
-
-pub record Untwisting (m : Meaning) (x i y : ℕ) : Type 0 where
-  pub is : twisted (ops m) i (elem m y) ≡ elem m x
-  pub counts : clip m y ≡ y
+use Rattle.skew.proofs.Resizing
+use Rattle.skew.proofs.Resizing.{zeros_null}
 
 pub record Subtracted (m : Meaning) (p : List ℕ) (j c : ℕ) (r s : List ℕ) : Type 0 where
   pub size : length s ≡ length r
@@ -97,74 +42,16 @@ module _ {m : Meaning} (l : Laws m) where
   abbrev laws : field.Laws (ops m)
   laws = Carrier.ops_laws l
 
-  -- `leading`, from the highest coefficient down.
-  pub leading_starts : {f : List ℕ} {n : ℕ} → n ≡ length f → Clear m f n
-  leading_starts {f} {n} e = record { null = λ i h. get_or-eq_default (elems m f) (ops m).zero (omega (arith, length-map f (elem m))) }
-
-  -- A coefficient that has no inverse is zero.
-  pub leading_goes_on : {f : List ℕ} {v : ℕ} (i j : ℕ) → i ≡ suc j → Clear m f i → v ≡ get_or f j 0 → None ≡ inverted m v → Clear m f j
-  leading_goes_on {f} {v} i j ei h ev en = record { null = go }
-    where
-      here : coef (ops m) (elems m f) j ≡ (ops m).zero
-      here = sym (Carrier.elem_at m f j) ∙ ap (elem m) (sym ev) ∙ inverse_none l v en
-
-      go : (k : ℕ) → j ≤ k → coef (ops m) (elems m f) k ≡ (ops m).zero
-      go k g = elim (cases_lt j k) [ inl q ↦ h.null k (omega arith) | inr q ↦ (let e : k ≡ j = omega arith in ap (coef (ops m) (elems m f)) e ∙ here) ]
-
-  -- A coefficient that has an inverse is the leading one.
-  pub leading_found : {f : List ℕ} {v x : ℕ} (i j : ℕ) → i ≡ suc j → Clear m f i → v ≡ get_or f j 0 → Some x ≡ inverted m v
-      → Leads m f j x
-  leading_found {f} {v} {x} i j ei h ev es =
-      let n = inverse_some l v es in
-      let e : elem m v ≡ coef (ops m) (elems m f) j = ap (elem m) ev ∙ Carrier.elem_at m f j in
-      record { degree = ((λ z. n.0 (e ∙ z)), λ k g. h.null k (omega arith)); inverse = n.1 ∙ ap (ops m).inv e }
-
-  -- With no such coefficient the polynomial is zero.
-  pub leading_none : {f : List ℕ} {i : ℕ} → i ≤ 0 → Clear m f i → AllByRecursion (Zero (ops m)) (elems m f)
-  leading_none {f} {i} e h = Multiplication.of_coef laws (elems m f) (λ k. h.null k (omega arith))
-
-  -- Before the first turn.
-  pub untwist_starts : (x : ℕ) {y : ℕ} → y ≡ clip m x → Untwisting m x 0 y
-  untwist_starts x e = let c = Carrier.clips m x e in record { is = c.0; counts = c.1 }
-
-  -- One twist more is undone.
-  pub untwist_goes_on : {x i y y' : ℕ} → Untwisting m x i y → y' ≡ m.untwist (clip m y) → Untwisting m x (i + 1) y'
-  untwist_goes_on {x} {i} {y} {y'} u e = record {
-    is = rw add-one (sym (Multiplication.twisted_twist laws i (elem m y')) ∙ ap (λ w. twisted (ops m) i ((ops m).twist w)) (Carrier.untwists m y e) ∙ ap (twisted (ops m) i) (laws.twist_untwist (elem m y)) ∙ u.is);
-    counts = Carrier.untwist_counts l y e;
-  }
-
-  -- After the last turn.
-  pub untwist_ends : {x n i y : ℕ} → n ≤ i → i ≤ n → Untwisting m x i y → Untwisted m n x y
-  untwist_ends {x} {n} {i} {y} h k u =
-      let e : i ≡ n = omega arith in
-      record { is = ap (λ z. twisted (ops m) z (elem m y)) (sym e) ∙ u.is; counts = u.counts }
-
   -- What is added with the opposite of c is taken off with c.
   pub subtracted : {p r s : List ℕ} {j c n : ℕ} → n ≡ m.opposite (clip m c) → Added m p j n r s → Subtracted m p j c r s
   subtracted {p} {r} {s} {j} {c} {n} en a = record {
     size = a.size;
     below = a.below;
-    above = λ k h. a.above k h ∙ ap (λ w. (ops m).add (elem m (get_or r (k + j) 0)) ((ops m).mul (coef (ops m) (elems m p) k) w)) (ap (twisted (ops m) k) (Carrier.negates m c en) ∙ Multiplication.twisted_neg laws k (elem m c)) ∙ ap ((ops m).add _) (outside (coef (ops m) (elems m p) k) (twisted (ops m) k (elem m c)));
+    above = λ k h. a.above k h ∙ ap (λ w. (ops m).add (elem m (get_or r (k + j) 0)) ((ops m).mul (coef (ops m) (elems m p) k) w)) (ap (twisted (ops m) k) (Carrier.negates m c en) ∙ Coefficients.twisted_neg laws k (elem m c)) ∙ ap ((ops m).add _) (outside (coef (ops m) (elems m p) k) (twisted (ops m) k (elem m c)));
   }
     where
       outside : (x y : Elem m) → (ops m).mul x ((ops m).neg y) ≡ (ops m).neg ((ops m).mul x y)
       outside x y = simp (ring, laws)
-
-  -- A list of zeros, and the sums that it makes.
-  zeros_null : {e out : List ℕ} {k : ℕ} → e ≡ [] → Resized 48 e k out → (i : ℕ) → get_or out i 0 ≡ 0
-  zeros_null {e} {out} {k} ee z i = elim (cases_lt i (length out)) [ inl h ↦ z.same i h ∙ ap (λ y. get_or y i 0) ee | inr h ↦ get_or_past out i 0 h ]
-
-  -- A list is in codes exactly where each of its numbers counts as itself.
-  codes_by : (f : List ℕ) → ((i : ℕ) → clip m (get_or f i 0) ≡ get_or f i 0) → Codes m f
-  codes_by [] h = refl
-  codes_by (x ∷ f) h = ap (λ y. y ∷ codes (elems m f)) (sym (Carrier.code_elem m x (h 0))) ∙ ap (λ ys. x ∷ ys) (codes_by f (λ i. h (suc i)))
-
-  -- The other way.
-  counted_by : (f : List ℕ) → Codes m f → (i : ℕ) → clip m (get_or f i 0) ≡ get_or f i 0
-  counted_by [] h i = Carrier.zero_counts l
-  counted_by (x ∷ f) h ℕ.zero = Carrier.counts l x (subst (λ y. Code m y) (ap (λ ys. get_or ys 0 0) h) (Carrier.is_code l (elem m x)))
-  counted_by (x ∷ f) h (suc i) = counted_by f (ap (drop 1) h) i
 
   -- Before the first turn out is zero, and the rest is the dividend.
   pub divide_starts : {n p rest e out : List ℕ} {d k : ℕ} → d + k ≤ 48 → Resized 48 n (d + k) rest → e ≡ [] → Resized 48 e k out → Dividing m n p d k k rest out
@@ -172,7 +59,7 @@ module _ {m : Meaning} (l : Laws m) where
     size_rest = omega (arith, a.size);
     size_out = omega (arith, z.size);
     within = omega arith;
-    proper = codes_by out (λ i. ap (clip m) (zeros_null ee z i) ∙ Carrier.zero_counts l ∙ sym (zeros_null ee z i));
+    proper = Resizing.codes_by l out (λ i. ap (clip m) (zeros_null ee z i) ∙ Carrier.zero_counts l ∙ sym (zeros_null ee z i));
     low = λ i h. null i;
     sum = λ i h. sym (Carrier.elem_at m rest i) ∙ ap (elem m) (a.same i (omega (arith, a.size))) ∙ Carrier.elem_at m n i
         ∙ sym (ap (λ w. (ops m).add (coef (ops m) (elems m n) i) ((ops m).neg w)) (Division.coefficient_null laws (elems m p) (elems m out) null i) ∙ nought (coef (ops m) (elems m n) i));
@@ -193,7 +80,7 @@ module _ {m : Meaning} (l : Laws m) where
     size_rest = s.size ∙ v.size_rest;
     size_out = ap length eo ∙ length-set out j c ∙ v.size_out;
     within = omega (arith, v.within);
-    proper = codes_by out' counted;
+    proper = Resizing.codes_by l out' counted;
     low = λ q h. other q (λ z. omega arith) ∙ v.low q (omega arith);
     sum = sum;
     done = done;
@@ -213,7 +100,7 @@ module _ {m : Meaning} (l : Laws m) where
 
       -- each number of out is a code
       out_counts : (q : ℕ) → clip m (get_or out q 0) ≡ get_or out q 0
-      out_counts q = counted_by out v.proper q
+      out_counts q = Resizing.counted_by l out v.proper q
 
       counted : (q : ℕ) → clip m (get_or out' q 0) ≡ get_or out' q 0
       counted q = elim (ℕ_discrete q j) [
@@ -244,7 +131,7 @@ module _ {m : Meaning} (l : Laws m) where
       ]
 
       undo : (x y : Elem m) → y ≢ (ops m).zero → (ops m).mul y ((ops m).mul x ((ops m).inv y)) ≡ x
-      undo x y ne = Basics.div_past_one laws y x ne
+      undo x y ne = Inverses.div_past_one laws y x ne
 
       -- the top of the rest is taken off
       top : coef (ops m) (elems m rest') (d + j) ≡ (ops m).zero

@@ -8,11 +8,13 @@ use Rattle.std.proofs.Math.ListN.{get_or-eq_default}
 use Rattle.std.proofs.lemmas.Bool.{cases_lt}
 use Rattle.fields.specs.Field.{Ops, Laws}
 use Rattle.fields.specs.Basics
+use Rattle.fields.specs.Twists
+use Rattle.fields.specs.Inverses
 use Rattle.fields.specs.Basics.{ring}
 use Rattle.skew.specs.Values.{twisted}
 use Rattle.skew.specs.Products.{coef, total, coefficient, Degree}
 use Rattle.skew.proofs.Sums
-use Rattle.skew.proofs.Multiplication
+use Rattle.skew.proofs.Coefficients
 
 module _ {F : Type 0} {o : Ops F} (l : Laws o) where
   open o use {zero, add as ◌+◌, mul as ◌*◌, neg, untwist}
@@ -23,7 +25,7 @@ module _ {F : Type 0} {o : Ops F} (l : Laws o) where
   total_but_one : (u v : ℕ → F) (n p : ℕ) (t : F) → p < n → u p ≡ v p + t → ((i : ℕ) → i < n → i ≢ p → u i ≡ v i) → total o u n ≡ total o v n + t
   total_but_one u v ℕ.zero p t h e same = absurd (omega arith)
   total_but_one u v (suc n) ℕ.zero t h e same =
-      ap (λ w. w + total o (λ i. u (suc i)) n) e ∙ ap (λ w. v 0 + t + w) (Multiplication.total_same l (λ i. u (suc i)) (λ i. v (suc i)) n (λ i k. same (suc i) (omega arith) (λ q. omega arith)))
+      ap (λ w. w + total o (λ i. u (suc i)) n) e ∙ ap (λ w. v 0 + t + w) (Coefficients.total_same l (λ i. u (suc i)) (λ i. v (suc i)) n (λ i k. same (suc i) (omega arith) (λ q. omega arith)))
       ∙ regroup (v 0) (total o (λ i. v (suc i)) n)
     where
       regroup : (x y : F) → x + t + y ≡ x + y + t
@@ -48,20 +50,20 @@ module _ {F : Type 0} {o : Ops F} (l : Laws o) where
       none : coef o p (n - j) * twisted o (n - j) (coef o q (n - (n - j))) ≡ zero
       none =
           ap (λ k. coef o p (n - j) * twisted o (n - j) (coef o q k)) back ∙ ap (λ w. coef o p (n - j) * twisted o (n - j) w) z
-          ∙ ap (λ w. coef o p (n - j) * w) (Multiplication.twisted_zero l (n - j)) ∙ Basics.mul_zero l _
+          ∙ ap (λ w. coef o p (n - j) * w) (Coefficients.twisted_zero l (n - j)) ∙ Basics.mul_zero l _
 
   -- Below place j it adds nothing.
   pub coefficient_same : (p q r : List F) (j : ℕ) → ((i : ℕ) → i ≢ j → coef o r i ≡ coef o q i) → (n : ℕ) → n < j → coefficient o p r n ≡ coefficient o p q n
   coefficient_same p q r j same n h =
-      Multiplication.total_same l (λ i. coef o p i * twisted o i (coef o r (n - i))) (λ i. coef o p i * twisted o i (coef o q (n - i))) (suc n)
+      Coefficients.total_same l (λ i. coef o p i * twisted o i (coef o r (n - i))) (λ i. coef o p i * twisted o i (coef o q (n - i))) (suc n)
       (λ i k. ap (λ w. coef o p i * twisted o i w) (same (n - i) (λ q. omega arith)))
 
   -- A product with zero.
   pub coefficient_null : (p q : List F) → ((i : ℕ) → coef o q i ≡ zero) → (n : ℕ) → coefficient o p q n ≡ zero
   coefficient_null p q h n =
-      Multiplication.total_same l (λ i. coef o p i * twisted o i (coef o q (n - i))) (λ i. zero) (suc n)
-      (λ i k. ap (λ w. coef o p i * twisted o i w) (h (n - i)) ∙ ap (λ w. coef o p i * w) (Multiplication.twisted_zero l i) ∙ Basics.mul_zero l _)
-      ∙ Multiplication.total_null l (suc n)
+      Coefficients.total_same l (λ i. coef o p i * twisted o i (coef o q (n - i))) (λ i. zero) (suc n)
+      (λ i k. ap (λ w. coef o p i * twisted o i w) (h (n - i)) ∙ ap (λ w. coef o p i * w) (Coefficients.twisted_zero l i) ∙ Basics.mul_zero l _)
+      ∙ Coefficients.total_null l (suc n)
 
   -- Equal sums that agree in all terms but one agree in that one.
   total_tells : (u v : ℕ → F) (n p : ℕ) → p < n → ((i : ℕ) → i < n → i ≢ p → u i ≡ v i) → total o u n ≡ total o v n → u p ≡ v p
@@ -76,7 +78,7 @@ module _ {F : Type 0} {o : Ops F} (l : Laws o) where
   -- Twists tell elements apart.
   twisted_inj : (n : ℕ) (x y : F) → twisted o n x ≡ twisted o n y → x ≡ y
   twisted_inj ℕ.zero x y e = e
-  twisted_inj (suc n) x y e = twisted_inj n x y (Basics.twist_inj l (twisted o n x) (twisted o n y) e)
+  twisted_inj (suc n) x y e = twisted_inj n x y (Twists.twist_inj l (twisted o n x) (twisted o n y) e)
 
   module _ (d k : ℕ) (p f g : List F) (deg : Degree o p d) (lf : length f ≡ k) (lg : length g ≡ k) (e : (n : ℕ) → d ≤ n → n < d +ℕ k → coefficient o p f n ≡ coefficient o p g n) where
     -- From the highest coefficient down.
@@ -85,7 +87,7 @@ module _ {F : Type 0} {o : Ops F} (l : Laws o) where
     from_top (suc n) i h = elim (cases_lt (i +ℕ n) k) [ inr q ↦ from_top n i q | inl q ↦ here q (from_top n) ]
       where
         here : i +ℕ n < k → ((j : ℕ) → k ≤ j +ℕ n → coef o f j ≡ coef o g j) → coef o f i ≡ coef o g i
-        here q above = twisted_inj d (coef o f i) (coef o g i) (Basics.mul_cancel l (coef o p d) _ _ deg.0 (sym (there f) ∙ term ∙ there g))
+        here q above = twisted_inj d (coef o f i) (coef o g i) (Inverses.mul_cancel l (coef o p d) _ _ deg.0 (sym (there f) ∙ term ∙ there g))
           where
             back : d +ℕ i - d ≡ i
             back = omega arith

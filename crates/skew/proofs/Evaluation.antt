@@ -6,7 +6,9 @@ use Rattle.std.proofs.Math.Path.{fun_ext}
 use Rattle.std.specs.List.{AllByRecursion}
 use Rattle.fields.specs.Field.{Ops, Laws, Fixed, plus, scale, comb}
 use Rattle.fields.specs.Basics
-use Rattle.fields.specs.Basics.{ring, twists}
+use Rattle.fields.specs.Twists
+use Rattle.fields.specs.Basics.{ring}
+use Rattle.fields.specs.Twists.{twists}
 use Rattle.skew.specs.Values.{step, eval, value}
 use Rattle.skew.specs.Products.{coef}
 use Rattle.skew.proofs.Values.{eval_value}
@@ -78,7 +80,7 @@ module _ {F : Type 0} {o : Ops F} (l : Laws o) where
   -- A linear map takes zero to zero.
   pub linear_zero : (T : F → F) → Linear T → T zero ≡ zero
   linear_zero T L =
-      ap T (sym (Basics.zero_mul l zero)) ∙ L.1 zero zero (Basics.fixed_zero l) ∙ Basics.zero_mul l (T zero)
+      ap T (sym (Basics.zero_mul l zero)) ∙ L.1 zero zero (Twists.fixed_zero l) ∙ Basics.zero_mul l (T zero)
 
   -- A linear map goes inside a combination with fixed coefficients.
   pub comb_map : (T : F → F) → Linear T → (cs bs : List F) → AllByRecursion (Fixed o) cs → comb o cs (map T bs) ≡ T (comb o cs bs)

@@ -1,7 +1,7 @@
 -- What holds of each element of a list.
 --
 --   all_left, all_right, all_append    of the parts of a joined list, and of the whole
---   all_map, all_so                    of a mapped list; and what follows from it
+--   all_map                            of a mapped list
 use Rattle.std.proofs.Common.{List, [], ◌∷◌, ◌++◌, map}
 use Rattle.std.specs.List.{AllByRecursion}
 
@@ -24,8 +24,3 @@ all_append P (x ∷ xs) ys h k = (h.0, all_append P xs ys h.1 k)
 pub all_map : {A B : Type 0} (P : B → Type 0) (h : A → B) (xs : List A) → AllByRecursion P (map h xs) → AllByRecursion (λ x. P (h x)) xs
 all_map P h [] k = tt
 all_map P h (x ∷ xs) k = (k.0, all_map P h xs k.1)
-
--- What follows from P, where P holds of each.
-pub all_so : {A : Type 0} (P Q : A → Type 0) → ((x : A) → P x → Q x) → (xs : List A) → AllByRecursion P xs → AllByRecursion Q xs
-all_so P Q f [] h = tt
-all_so P Q f (x ∷ xs) h = (f x h.0, all_so P Q f xs h.1)

@@ -1,6 +1,7 @@
 -- The loop of `annihilator`, over plain numbers.
 --
---   Growing m ps f    f is in codes, monic, of degree at most the number of points, and vanishes at each
+--   Growing m ps f    f is in codes, monic, of degree at most the number of points, and vanishes at each; and what vanishes at
+--                     each is a multiple of it
 use Rattle.std.proofs.Common.{◌≡◌, ℕ, suc, ◌+◌, ◌<◌, ◌≤◌, Bool, true, false, cond, ltb, ◌≢◌, List, [], ◌∷◌, ◌++◌, length, get_or, take, Some, None, Option, sym, refl, ap, ◌∙◌, subst, arith, MatchOption}
 use Rattle.std.proofs.lemmas.List.{length-map}
 use Rattle.std.proofs.lemmas.List.{take_more, take_all, map-append, length_push, length-take-le}
@@ -10,16 +11,18 @@ use Rattle.fields.specs.Field as field
 use Rattle.fields.specs.Meaning.{Meaning, Laws, clip, inverted}
 use Rattle.fields.specs.Elements.{Elem, element, elem, elems, codes, ops}
 use Rattle.fields.specs.Basics
+use Rattle.fields.specs.Inverses
 use Rattle.fields.proofs.Carrier
+use Rattle.fields.specs.Lists.{all_follow}
 use Rattle.skew.specs.declared.points.Point.{Point}
 use Rattle.skew.specs.declared.few.Few.{Few}
 use Rattle.skew.specs.Values.{step, eval, value, eval_code}
 use Rattle.skew.specs.Roots.{Vanishes}
 use Rattle.skew.specs.Products.{coef, Product}
 use Rattle.skew.specs.Polynomials.{coefficients, Codes, Multiplied}
-use Rattle.skew.specs.Annihilators.{place, places, Monic, Annihilated, Root, Grown}
+use Rattle.skew.specs.Annihilators.{place, places, Monic, Multiple, Annihilated, Root, Grown}
 use Rattle.skew.proofs.Evaluation
-use Rattle.skew.proofs.Everywhere.{all_append, all_so}
+use Rattle.skew.proofs.Everywhere.{all_append, all_left, all_right}
 use Rattle.skew.proofs.Vanishing
 use Rattle.skew.proofs.Vanishing.{linear}
 
@@ -28,6 +31,7 @@ pub record Growing (m : Meaning) (ps : List Point) (f : List ℕ) : Type 0 where
   pub monic : Monic (ops m) (elems m f)
   pub degree : length f ≤ suc (length ps)
   pub vanishes : AllByRecursion (Vanishes (ops m) (elems m f)) (places m ps)
+  pub least : (h : List (Elem m)) → AllByRecursion (Vanishes (ops m) h) (places m ps) → Multiple (ops m) (elems m f) h
 
 -- What a choice between a value and none says where it is a value.
 some_of : (b : Bool) (x i : ℕ) → Some i ≡ cond b (Some x) None → (b ≡ true) × (i ≡ x)
@@ -76,7 +80,7 @@ module _ {m : Meaning} (l : Laws m) where
       let e4 = Carrier.multiplies m s i ec in
       let e5 = n.1 in
       let e : elem m c ≡ o.mul (step o (elem m a) (elem m v)) (o.inv (elem m v)) = cc in
-      record { is = ap (λ w. o.mul w (elem m v)) e ∙ Basics.mul_assoc laws _ (o.inv (elem m v)) (elem m v) ∙ ap (o.mul _) (Basics.inv_mul laws (elem m v) n.0) ∙ Basics.mul_one laws _ }
+      record { is = ap (λ w. o.mul w (elem m v)) e ∙ Basics.mul_assoc laws _ (o.inv (elem m v)) (elem m v) ∙ ap (o.mul _) (Inverses.inv_mul laws (elem m v) n.0) ∙ Basics.mul_one laws _ }
 
   -- What `linear` fills in.
   pub linear_is : (c : ℕ) {d : ℕ} {e p q : List ℕ} → e ≡ [] → d ≡ m.opposite (clip m c) → p ≡ take 48 (e ++ d ∷ []) → q ≡ take 48 (p ++ 1 ∷ []) → q ≡ codes (linear (ops m) (elem m c))
@@ -90,9 +94,9 @@ module _ {m : Meaning} (l : Laws m) where
   both = Evaluation.both_values laws
 
   -- With a factor more.
-  grown_more : (g : List ℕ) (p : Point) {s k f : List ℕ} {v c : ℕ} → s ≡ g → v ≡ eval_code m s p.parameter p.locator → Root m p.parameter v c → k ≡ codes (linear (ops m) (elem m c)) → Multiplied m k g f
+  grown_more : (g : List ℕ) (p : Point) {s k f : List ℕ} {v c : ℕ} → s ≡ g → v ≡ eval_code m s p.parameter p.locator → (elem m v ≢ (ops m).zero) × Root m p.parameter v c → k ≡ codes (linear (ops m) (elem m c)) → Multiplied m k g f
       → Grown m g p f
-  grown_more g p {s} {k} {f} {v} {c} es ev r ek h =
+  grown_more g p {s} {k} {f} {v} {c} es ev (nz, r) ek h =
       let o = ops m in
       let a = elem m p.parameter in
       let b = elem m p.locator in
@@ -107,10 +111,15 @@ module _ {m : Meaning} (l : Laws m) where
         there = subst (λ w. w a (elems m f) b ≡ o.zero) both (Vanishing.product_there laws (elem m c) (elems m g) (elems m f) H a b (subst (λ x. o.mul (elem m c) x ≡ step o a x) V r.is));
         keeps = subst (λ w. (t : Elem m × Elem m) → w t.0 (elems m g) t.1 ≡ o.zero → w t.0 (elems m f) t.1 ≡ o.zero) both
             (λ t. Vanishing.product_keeps laws (elem m c) (elems m g) (elems m f) H t.0 t.1);
+        least = subst (λ w. (h : List (Elem m)) → (q : List (Elem m)) × ((e x : Elem m) → w e h x ≡ w e q (w e (elems m g) x)) → w a h b ≡ o.zero
+            → (q : List (Elem m)) × ((e x : Elem m) → w e h x ≡ w e q (w e (elems m f) x))) both
+            (λ h u z.
+            let d = Vanishing.product_least laws (elem m c) (elems m g) (elems m f) H a b u.0 (λ y. nz (V ∙ y)) (subst (λ x. o.mul (elem m c) x ≡ step o a x) V r.is) (sym (u.1 a b) ∙ z) in
+            (d.0, λ e x. u.1 e x ∙ d.1 e x));
       }
 
   -- What `product` answers for the factor and g.
-  pub grown_product : (g : List ℕ) (p : Point) {s k : List ℕ} {v c : ℕ} → s ≡ g → v ≡ eval_code m s p.parameter p.locator → Root m p.parameter v c → k ≡ codes (linear (ops m) (elem m c))
+  pub grown_product : (g : List ℕ) (p : Point) {s k : List ℕ} {v c : ℕ} → s ≡ g → v ≡ eval_code m s p.parameter p.locator → (elem m v ≢ (ops m).zero) × Root m p.parameter v c → k ≡ codes (linear (ops m) (elem m c))
       → (r : Option (Few ℕ 48)) → MatchOption r (49 < length k + length g) (λ f. Multiplied m k g (coefficients f)) → MatchOption r (47 < length g) (λ f. Grown m g p (coefficients f))
   grown_product g p es ev r ek None h = omega (arith, ap length ek)
   grown_product g p es ev r ek (Some f) h = grown_more g p es ev r ek h
@@ -122,7 +131,7 @@ module _ {m : Meaning} (l : Laws m) where
       let a = elem m p.parameter in
       let b = elem m p.locator in
       let V : elem m v ≡ eval o a (elems m g) b = Carrier.named _ ev ∙ ap (λ z. eval o a (elems m z) b) es in
-      record { proper = λ h. h; size = omega arith; monic = λ h. h; there = subst (λ w. w a (elems m g) b ≡ o.zero) both (sym V ∙ z); keeps = λ t h. h }
+      record { proper = λ h. h; size = omega arith; monic = λ h. h; there = subst (λ w. w a (elems m g) b ≡ o.zero) both (sym V ∙ z); keeps = λ t h. h; least = λ h u z. u }
 
   -- The polynomial 1 vanishes at no point.
   pub annihilator_starts : {e out : List ℕ} → e ≡ [] → out ≡ take 48 (e ++ 1 ∷ []) → Growing m [] out
@@ -134,7 +143,13 @@ module _ {m : Meaning} (l : Laws m) where
         monic = (0, length-map out (elem m) ∙ ap length e1, ap (λ z. coef (ops m) (elems m z) 0) e1 ∙ Carrier.one_is m);
         degree = omega (arith, ap length e1);
         vanishes = tt;
+        least = λ h _. (h, λ e x. ap (value (ops m) e h) (sym (value_of_one e x e1)));
       }
+    where
+      value_of_one : (e x : Elem m) → out ≡ 1 ∷ [] → value (ops m) e (elems m out) x ≡ x
+      value_of_one e x h =
+          ap (λ z. value (ops m) e (elems m z) x) h ∙ ap (λ v. v e (elems m (1 ∷ [])) x) (sym both) ∙ ap (λ y. (ops m).add ((ops m).mul y x) (ops m).zero) (Carrier.one_is m)
+          ∙ Basics.add_zero laws _ ∙ Basics.one_mul laws x
 
   -- One point more.
   pub annihilator_goes_on : (d : Point) (ps : List Point) {i : ℕ} {out out' : List ℕ} → i < length ps → Growing m (take i ps) out
@@ -142,11 +157,20 @@ module _ {m : Meaning} (l : Laws m) where
   annihilator_goes_on d ps {i} {out} {out'} h a r =
       let p = get_or ps i d in
       let V : Elem m × Elem m → Type 0 = Vanishes (ops m) (elems m out') in
-      let old : AllByRecursion V (places m (take i ps)) = all_so (Vanishes (ops m) (elems m out)) V r.keeps (places m (take i ps)) a.vanishes in
+      let old : AllByRecursion V (places m (take i ps)) = all_follow (Vanishes (ops m) (elems m out)) V r.keeps (places m (take i ps)) a.vanishes in
       let new : AllByRecursion V (places m (take i ps ++ p ∷ [])) = subst (AllByRecursion V) (sym (map-append (place m) (take i ps) (p ∷ []))) (all_append V (places m (take i ps)) (place m p ∷ []) old (r.there, tt)) in
       let k : length (take i ps ++ p ∷ []) ≡ suc (length (take i ps)) = length_push (take i ps) p ∙ omega arith in
       subst (λ qs. Growing m qs out') (sym (take_more ps i d h))
-      (record { proper = r.proper a.proper; monic = r.monic a.monic; degree = omega (arith, r.size, a.degree); vanishes = new })
+      (record {
+        proper = r.proper a.proper;
+        monic = r.monic a.monic;
+        degree = omega (arith, r.size, a.degree);
+        vanishes = new;
+        least = λ f v.
+            let w = subst (AllByRecursion (Vanishes (ops m) f)) (map-append (place m) (take i ps) (p ∷ [])) v in
+            r.least f (a.least f (all_left (Vanishes (ops m) f) (places m (take i ps)) (place m p ∷ []) w))
+            (all_right (Vanishes (ops m) f) (places m (take i ps)) (place m p ∷ []) w).0;
+      })
 
   -- There is room as long as there are at most 24 points.
   pub annihilator_room : (ps : List Point) {i : ℕ} {out : List ℕ} → length ps ≤ 24 → i < length ps → Growing m (take i ps) out → 47 < length out → ⊥
@@ -161,4 +185,5 @@ module _ {m : Meaning} (l : Laws m) where
         proper = a.proper;
         annihilator = Vanishing.is_annihilator laws (places m ps) (elems m out) a.monic (omega (arith, a.degree, length-map out (elem m), length-map {B = Elem m × Elem m} ps (place m)))
             (subst (λ v. AllByRecursion (λ t. v t.0 (elems m out) t.1 ≡ (ops m).zero) (places m ps)) (sym both) a.vanishes);
+        least = a.least;
       }

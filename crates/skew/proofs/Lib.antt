@@ -2,8 +2,11 @@ pub mod Values
 pub mod Valuing
 pub mod Everywhere
 pub mod Evaluation
+pub mod RightDivision
+pub mod IndependentLocators
 pub mod RootCount
 pub mod Sums
+pub mod Coefficients
 pub mod Multiplication
 pub mod Filling
 pub mod Combining
@@ -12,7 +15,13 @@ pub mod Adding
 pub mod Vanishing
 pub mod Growing
 pub mod Sharpness
+pub mod Correcting
 pub mod Interpolating
+pub mod PairDegrees
+pub mod PairValues
 pub mod PairSteps
 pub mod Carrying
+pub mod Resizing
+pub mod Leading
+pub mod Untwisting
 pub mod Dividing

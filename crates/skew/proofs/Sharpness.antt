@@ -7,16 +7,18 @@ use Rattle.std.proofs.lemmas.List.{length-map}
 use Rattle.std.specs.List.{AllByRecursion}
 use Rattle.fields.specs.Field.{Ops, Laws, Zero, plus, scale}
 use Rattle.fields.specs.Basics
+use Rattle.fields.specs.Inverses
 use Rattle.fields.specs.Basics.{ring}
 use Rattle.fields.specs.Rows
+use Rattle.fields.specs.Lists.{all_follow}
 use Rattle.skew.specs.Values.{step, eval}
-use Rattle.skew.specs.Roots.{Block, block, places, points, Lawful}
+use Rattle.skew.specs.Roots.{Block, block, locator_count, points, Lawful}
 use Rattle.skew.specs.Products.{coef}
 use Rattle.skew.specs.Annihilators.{Monic}
 use Rattle.skew.proofs.Evaluation
-use Rattle.skew.proofs.Everywhere.{all_so}
 use Rattle.skew.proofs.RootCount
 use Rattle.skew.proofs.Multiplication
+use Rattle.skew.proofs.Coefficients
 use Rattle.skew.proofs.Multiplication.{times}
 use Rattle.skew.proofs.Vanishing
 use Rattle.skew.proofs.Vanishing.{linear}
@@ -36,7 +38,7 @@ module _ {F : Type 0} {o : Ops F} (l : Laws o) where
   infixl 65 ◌+◌
   infixl 70 ◌*◌
   -- There are as many points as places.
-  pub length_points : (blocks : List (Block F)) → length (points blocks) ≡ places blocks
+  pub length_points : (blocks : List (Block F)) → length (points blocks) ≡ locator_count blocks
   length_points [] = refl
   length_points (block a bs ∷ blocks) =
       length-append (map (λ b. (a, b)) bs) (points blocks) ∙ omega (arith, length-map {B = F × F} bs (λ b. (a, b)), length_points blocks)
@@ -57,7 +59,7 @@ module _ {F : Type 0} {o : Ops F} (l : Laws o) where
       at_zero z = ap (eval o a (linear o (step o a w * inv w))) z ∙ Evaluation.eval_zero l a (linear o (step o a w * inv w))
 
       undo : w ≢ zero → step o a w * inv w * w ≡ step o a w
-      undo n = Basics.mul_assoc l (step o a w) (inv w) w ∙ ap (λ x. step o a w * x) (Basics.inv_mul l w n) ∙ Basics.mul_one l _
+      undo n = Basics.mul_assoc l (step o a w) (inv w) w ∙ ap (λ x. step o a w * x) (Inverses.inv_mul l w n) ∙ Basics.mul_one l _
 
   -- One more in the middle.
   insert : (P : F × F → Type 0) (xs : List (F × F)) (t : F × F) (ys : List (F × F)) → P t → AllByRecursion P (xs ++ ys) → AllByRecursion P (xs ++ t ∷ ys)
@@ -67,10 +69,10 @@ module _ {F : Type 0} {o : Ops F} (l : Laws o) where
   -- Sharp points without one of them.
   pub sharp_less : (xs : List (F × F)) (t : F × F) (ys : List (F × F)) → Sharp o (xs ++ t ∷ ys) → Sharp o (xs ++ ys)
   sharp_less xs t ys h f k v =
-      Multiplication.no_divisors l g f (λ z. Basics.one_zero l z.1.0)
+      Multiplication.no_divisors l g f (λ z. Inverses.one_zero l z.1.0)
       (h (times o g f) (omega (arith, Multiplication.length_times l (neg c) (one ∷ []) f, length-append xs (t ∷ ys), length-append xs ys))
       (insert (Nil o (times o g f)) xs t ys (Multiplication.product_applies l t.0 g f t.1 ∙ factor_root t.0 (eval o t.0 f t.1))
-      (all_so (Nil o f) (Nil o (times o g f)) (λ s e. Multiplication.product_applies l s.0 g f s.1 ∙ ap (eval o s.0 g) e ∙ Evaluation.eval_zero l s.0 g) (xs ++ ys) v)))
+      (all_follow (Nil o f) (Nil o (times o g f)) (λ s e. Multiplication.product_applies l s.0 g f s.1 ∙ ap (eval o s.0 g) e ∙ Evaluation.eval_zero l s.0 g) (xs ++ ys) v)))
     where
       c : F
       c = step o t.0 (eval o t.0 f t.1) * inv (eval o t.0 f t.1)
@@ -85,7 +87,7 @@ module _ {F : Type 0} {o : Ops F} (l : Laws o) where
 
   -- A monic polynomial with no more coefficients than sharp points does not vanish at all of them.
   pub monic_seen : (pts : List (F × F)) (m : List F) → Sharp o pts → Monic o m → length m ≤ length pts → AllByRecursion (Nil o m) pts → ⊥
-  monic_seen pts m h top k v = Basics.one_zero l (sym top.2 ∙ Multiplication.coef_of l m (h m k v) top.0)
+  monic_seen pts m h top k v = Inverses.one_zero l (sym top.2 ∙ Coefficients.coef_of l m (h m k v) top.0)
 
   -- Equal lists have equal heads.
   pub head_same : {x y : F} {xs ys : List F} → x ∷ xs ≡ y ∷ ys → x ≡ y
@@ -119,7 +121,7 @@ module _ {F : Type 0} {o : Ops F} (l : Laws o) where
   unfolding minus
   minus_same f g z i =
       Basics.equal_of_sub l (coef o f i) (coef o g i)
-      (sym (Multiplication.coef_plus l f (scale o (neg one) g) i ∙ ap (λ w. coef o f i + w) (Multiplication.coef_scale l (neg one) g i ∙ one_less (coef o g i))) ∙ Multiplication.coef_of l (minus f g) z i)
+      (sym (Coefficients.coef_plus l f (scale o (neg one) g) i ∙ ap (λ w. coef o f i + w) (Coefficients.coef_scale l (neg one) g i ∙ one_less (coef o g i))) ∙ Coefficients.coef_of l (minus f g) z i)
     where
       one_less : (x : F) → neg one * x ≡ neg x
       one_less x = simp (ring, l)

@@ -4,8 +4,10 @@
 --   eval_value              the recursion gives the sum
 use Rattle.std.proofs.Common.{◌≡◌, ℕ, suc, List, [], ◌∷◌, sym, refl, ap, ◌∙◌}
 use Rattle.fields.specs.Field.{Ops, Laws}
+use Rattle.fields.specs.Twists
 use Rattle.fields.specs.Basics
-use Rattle.fields.specs.Basics.{ring, twists}
+use Rattle.fields.specs.Basics.{ring}
+use Rattle.fields.specs.Twists.{twists}
 use Rattle.skew.specs.Values.{twisted, norm, series, value, step, eval}
 
 module _ {F : Type 0} {o : Ops F} (l : Laws o) where
@@ -17,13 +19,13 @@ module _ {F : Type 0} {o : Ops F} (l : Laws o) where
   norm_step : (i : ℕ) (a : F) → twist (norm o i a) * a ≡ norm o (suc i) a
   norm_step ℕ.zero a = simp (ring, twists, l)
   norm_step (suc i) a =
-      ap (λ w. w * a) (Basics.twist_mul l (twisted o i a) (norm o i a)) ∙ Basics.mul_assoc l _ _ a
+      ap (λ w. w * a) (Twists.twist_mul l (twisted o i a) (norm o i a)) ∙ Basics.mul_assoc l _ _ a
       ∙ ap (λ w. twist (twisted o i a) * w) (norm_step i a)
 
   -- One step takes the i-th term of the sum to the next.
   pub term_step : (a b : F) (i : ℕ) → step o a (twisted o i b * norm o i a) ≡ twisted o (suc i) b * norm o (suc i) a
   term_step a b i =
-      ap (λ w. w * a) (Basics.twist_mul l (twisted o i b) (norm o i a)) ∙ Basics.mul_assoc l _ _ a ∙ ap (λ w. twist (twisted o i b) * w) (norm_step i a)
+      ap (λ w. w * a) (Twists.twist_mul l (twisted o i b) (norm o i a)) ∙ Basics.mul_assoc l _ _ a ∙ ap (λ w. twist (twisted o i b) * w) (norm_step i a)
 
   -- The recursion sums a series each of whose terms is the step of the one before.
   eval_from : (a : F) (f : List F) (u : ℕ → F) → ((i : ℕ) → step o a (u i) ≡ u (suc i)) → eval o a f (u 0) ≡ series o u f

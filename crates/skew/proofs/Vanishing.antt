@@ -9,12 +9,16 @@ use Rattle.std.proofs.lemmas.Bool.{cases_lt}
 use Rattle.std.specs.List.{AllByRecursion}
 use Rattle.fields.specs.Field.{Ops, Laws, Zero, Fixed, comb}
 use Rattle.fields.specs.Basics
+use Rattle.fields.specs.Twists
+use Rattle.fields.specs.Inverses
 use Rattle.fields.specs.Basics.{ring}
 use Rattle.skew.specs.Values.{step, eval}
 use Rattle.skew.specs.Products.{coef, Product}
 use Rattle.skew.specs.Annihilators.{Among, Monic, Annihilator}
 use Rattle.skew.proofs.Evaluation
 use Rattle.skew.proofs.Multiplication
+use Rattle.skew.proofs.Coefficients
+use Rattle.skew.proofs.RightDivision
 use Rattle.skew.proofs.Multiplication.{shift, times}
 
 module _ {F : Type 0} (o : Ops F) where
@@ -23,7 +27,7 @@ module _ {F : Type 0} (o : Ops F) where
   linear c = o.neg c ∷ o.one ∷ []
 
 module _ {F : Type 0} {o : Ops F} (l : Laws o) where
-  open o use {zero, one, add as ◌+◌, mul as ◌*◌, neg, inv, twist}
+  open o use {zero, one, add as ◌+◌, mul as ◌*◌, neg, twist}
 
   infixl 65 ◌+◌
   infixl 70 ◌*◌
@@ -34,12 +38,19 @@ module _ {F : Type 0} {o : Ops F} (l : Laws o) where
       gather : (d : F) → neg c * w + (one * d + zero) ≡ d + neg (c * w)
       gather d = simp (ring, l)
 
+  -- What x - c does, as it stands in division.
+  linear_less : (a c w : F) → eval o a (linear o c) w ≡ RightDivision.less l c a w
+  linear_less a c w = gather (step o a w)
+    where
+      gather : (d : F) → neg c * w + (one * d + zero) ≡ d + neg (c * w)
+      gather d = simp (ring, l)
+
   -- The highest coefficient of (x - c) × p.
   pub highest : (c : F) (p : List F) (n : ℕ) → length p ≡ suc n → coef o p n ≡ one → coef o (times o (linear o c) p) (suc n) ≡ one
   highest c p n len top =
       Multiplication.coef_times l (neg c) (one ∷ []) p (suc n)
       ∙ ap (λ w. neg c * w + coef o (times o (one ∷ []) (shift o p)) (suc n)) (get_or-eq_default p zero (omega arith))
-      ∙ ap (λ w. neg c * zero + w) (Multiplication.coef_times l one [] (shift o p) (suc n) ∙ ap (λ w. one * w + zero) (Multiplication.coef_twist l p n ∙ ap twist top ∙ Basics.twist_one l))
+      ∙ ap (λ w. neg c * zero + w) (Multiplication.coef_times l one [] (shift o p) (suc n) ∙ ap (λ w. one * w + zero) (Coefficients.coef_twist l p n ∙ ap twist top ∙ Twists.twist_one l))
       ∙ simp (ring, l)
 
   -- A list is longer than the place of a coefficient that is not zero.
@@ -60,15 +71,22 @@ module _ {F : Type 0} {o : Ops F} (l : Laws o) where
     pub product_keeps : (a b : F) → eval o a g b ≡ zero → eval o a p b ≡ zero
     product_keeps a b e = applied a b ∙ ap (eval o a (linear o c)) e ∙ Evaluation.eval_zero l a (linear o c)
 
+    -- A multiple of g that vanishes where x - c takes the value of g to zero, and g does not, is a multiple of it.
+    pub product_least : (a b : F) (q : List F) → eval o a g b ≢ zero → c * eval o a g b ≡ step o a (eval o a g b) → eval o a q (eval o a g b) ≡ zero
+        → (r : List F) × ((e x : F) → eval o e q (eval o e g x) ≡ eval o e r (eval o e p x))
+    product_least a b q n e z =
+        let d = RightDivision.root_divides l c a (eval o a g b) q n (Basics.sub_of_equal l _ _ (sym e)) z in
+        (d.0, λ e x. d.1 e (eval o e g x) ∙ ap (eval o e d.0) (sym (linear_less e c (eval o e g x)) ∙ sym (applied e x)))
+
     -- It is monic where g is.
     pub product_monic : length p ≤ suc (length g) → Monic o g → Monic o p
-    product_monic k m = (suc m.0, omega (arith, m.1, past p (suc m.0) (λ z. Basics.one_zero l (sym top ∙ z))), top)
+    product_monic k m = (suc m.0, omega (arith, m.1, past p (suc m.0) (λ z. Inverses.one_zero l (sym top ∙ z))), top)
       where
         top : coef o p (suc m.0) ≡ one
         top = h.coefficients (suc m.0) ∙ sym (Multiplication.coef_product l (linear o c) g (suc m.0)) ∙ highest c g m.0 m.1 m.2
 
   -- A combination of zeros.
-  comb_null : (cs es : List F) → AllByRecursion (Zero o) es → comb o cs es ≡ zero
+  pub comb_null : (cs es : List F) → AllByRecursion (Zero o) es → comb o cs es ≡ zero
   comb_null [] es h = refl
   comb_null (c ∷ cs) [] h = refl
   comb_null (c ∷ cs) (e ∷ es) h = ap (λ w. c * w + comb o cs es) h.0 ∙ ap (λ w. c * zero + w) (comb_null cs es h.1) ∙ simp (ring, l)

@@ -5,9 +5,12 @@
 --   Monic o f                  the last coefficient of f is one
 --   Annihilator o pts f        f is monic, has degree at most the number of points, and vanishes at each, and so at every
 --                              combination with fixed coefficients of points that share a parameter
---   Annihilated m ps f         f is in codes, and is such a polynomial for at most 24 points
+--   Multiple o g h             h is a multiple of g: its value is that of some polynomial at the value of g
+--   Annihilated m ps f         f is in codes, and is such a polynomial for at most 24 points; and all that vanishes at the points is a
+--                              multiple of it, so that none of lower degree does
 --   Root m a v c               x - c takes v to zero at the parameter a
---   Grown m g p f              f vanishes wherever g does, and at the point p; it is monic where g is
+--   Grown m g p f              f vanishes wherever g does, and at the point p; it is monic where g is; and each multiple of g that
+--                              vanishes at p is a multiple of f
 use Rattle.std.specs.Prelude.{◌≡◌, ℕ, suc, ◌≤◌, ◌⊎◌, List, [], ◌∷◌, map, length}
 use Rattle.std.specs.List.{AllByRecursion}
 use Rattle.fields.specs.Field.{Ops, Fixed, comb}
@@ -38,10 +41,14 @@ pub record Annihilator {F : Type 0} (o : Ops F) (pts : List (F × F)) (f : List 
   pub vanishes : AllByRecursion (Vanishes o f) pts
   pub spans : (a : F) (cs es : List F) → AllByRecursion (Fixed o) cs → AllByRecursion (λ e. Among (a, e) pts) es → value o a f (comb o cs es) ≡ o.zero
 
+abbrev pub Multiple : {F : Type 0} → Ops F → List F → List F → Type 0
+Multiple {F} o g h = (q : List F) × ((a b : F) → value o a h b ≡ value o a q (value o a g b))
+
 pub record Annihilated (m : Meaning) (ps : List Point) (f : List ℕ) : Type 0 where
   pub room : length ps ≤ 24
   pub proper : Codes m f
   pub annihilator : Annihilator (ops m) (places m ps) (elems m f)
+  pub least : (h : List (Elem m)) → AllByRecursion (Vanishes (ops m) h) (places m ps) → Multiple (ops m) (elems m f) h
 
 pub record Root (m : Meaning) (a v c : ℕ) : Type 0 where
   pub is : (ops m).mul (elem m c) (elem m v) ≡ step (ops m) (elem m a) (elem m v)
@@ -52,3 +59,4 @@ pub record Grown (m : Meaning) (g : List ℕ) (p : Point) (f : List ℕ) : Type 
   pub monic : Monic (ops m) (elems m g) → Monic (ops m) (elems m f)
   pub there : Vanishes (ops m) (elems m f) (place m p)
   pub keeps : (t : Elem m × Elem m) → Vanishes (ops m) (elems m g) t → Vanishes (ops m) (elems m f) t
+  pub least : (h : List (Elem m)) → Multiple (ops m) (elems m g) h → Vanishes (ops m) h (place m p) → Multiple (ops m) (elems m f) h

@@ -2,11 +2,12 @@
 --
 --   values o f pts             the row of values of f
 --   Unlawful m ps              however the points are grouped in blocks, these are not lawful
+--   Stuck m ps vs              the points are not lawful, and no polynomial at all has these values at them
 --   Interpolated m ps vs f     f has these values, and at most as many coefficients as there are points; where the points are
 --                              lawful it is the only such polynomial
 --   indicator n i              n numbers, 1 at place i and 0 elsewhere
 --   Corrected m f g p v h      h has the value v at the point p, and those of f wherever g vanishes
-use Rattle.std.specs.Prelude.{◌≡◌, ℕ, ◌≤◌, max, List, map, length, replicate, slice_set}
+use Rattle.std.specs.Prelude.{◌≡◌, ◌≢◌, ℕ, ◌≤◌, max, List, map, length, replicate, slice_set}
 use Rattle.fields.specs.Field.{Ops}
 use Rattle.fields.specs.Meaning.{Meaning}
 use Rattle.fields.specs.Elements.{Elem, elem, elems, ops}
@@ -21,6 +22,10 @@ values o f pts = map (at o f) pts
 
 abbrev pub Unlawful : Meaning → List Point → Type 0
 Unlawful m ps = (blocks : List (Block (Elem m))) → points blocks ≡ places m ps → ¬ Lawful (ops m) blocks
+
+pub record Stuck (m : Meaning) (ps : List Point) (vs : List ℕ) : Type 0 where
+  pub unlawful : Unlawful m ps
+  pub unmet : (g : List (Elem m)) → values (ops m) g (places m ps) ≢ elems m vs
 
 -- n numbers, 1 at place i and 0 elsewhere.
 abbrev pub indicator : ℕ → ℕ → List ℕ

@@ -1,7 +1,7 @@
 -- The root count: how many zeros a skew polynomial can have at lawful points.
 --
 --   Block F           a parameter, and the locators that are read at it
---   places blocks     how many locators there are
+--   locator_count blocks   how many locators there are
 --   points blocks     the points (parameter, locator), block after block
 --   Independent bs    only fixed coefficients that are all zero combine bs to zero
 --   Conjugate a b     b is (c twisted) × a × (inverse of c) for some c other than zero
@@ -16,9 +16,9 @@ use Rattle.skew.specs.Values.{value}
 pub data Block (F : Type 0) : Type 0 where
   block : F → List F → Block F
 
-abbrev pub places : {F : Type 0} → List (Block F) → ℕ
-places [] = 0
-places (block a bs ∷ rest) = length bs + places rest
+abbrev pub locator_count : {F : Type 0} → List (Block F) → ℕ
+locator_count [] = 0
+locator_count (block a bs ∷ rest) = length bs + locator_count rest
 
 abbrev pub points : {F : Type 0} → List (Block F) → List (F × F)
 points [] = []
@@ -45,4 +45,4 @@ module _ {F : Type 0} (o : Ops F) where
   Vanishes f t = at f t ≡ o.zero
 
   abbrev pub RootCount : Type 0
-  RootCount = (blocks : List (Block F)) (f : List F) → Lawful blocks → length f ≤ places blocks → AllByRecursion (Vanishes f) (points blocks) → AllByRecursion (Zero o) f
+  RootCount = (blocks : List (Block F)) (f : List F) → Lawful blocks → length f ≤ locator_count blocks → AllByRecursion (Vanishes f) (points blocks) → AllByRecursion (Zero o) f

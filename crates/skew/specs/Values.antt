@@ -13,31 +13,29 @@ use Rattle.fields.specs.Meaning.{Meaning}
 use Rattle.fields.specs.Elements.{elem, elems, ops}
 
 module _ {F : Type 0} (o : Ops F) where
-  open o use {zero, one, add as ◌+◌, mul as ◌*◌, twist}
+  open o use {zero, one, add, mul, twist}
 
-  infixl 65 ◌+◌
-  infixl 70 ◌*◌
   abbrev pub twisted : ℕ → F → F
   twisted ℕ.zero b = b
   twisted (suc i) b = twist (twisted i b)
 
   abbrev pub norm : ℕ → F → F
   norm ℕ.zero a = one
-  norm (suc i) a = twisted i a * norm i a
+  norm (suc i) a = mul (twisted i a) (norm i a)
 
   abbrev pub series : (ℕ → F) → List F → F
   series u [] = zero
-  series u (c ∷ f) = c * u 0 + series (λ i. u (suc i)) f
+  series u (c ∷ f) = add (mul c (u 0)) (series (λ i. u (suc i)) f)
 
   abbrev pub value : F → List F → F → F
-  value a f b = series (λ i. twisted i b * norm i a) f
+  value a f b = series (λ i. mul (twisted i b) (norm i a)) f
 
   abbrev pub step : F → F → F
-  step a b = twist b * a
+  step a b = mul (twist b) a
 
   abbrev pub eval : F → List F → F → F
   eval a [] b = zero
-  eval a (c ∷ f) b = c * b + eval a f (step a b)
+  eval a (c ∷ f) b = add (mul c b) (eval a f (step a b))
 
 abbrev pub value_code : Meaning → List ℕ → ℕ → ℕ → ℕ
 value_code m f parameter locator = (value (ops m) (elem m parameter) (elems m f) (elem m locator)).code

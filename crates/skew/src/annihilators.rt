@@ -1,5 +1,5 @@
 // Polynomials that vanish at given points.
-ghost use Rattle.std.specs.Prelude.{◌≡◌, ◌+◌, ◌<◌, [], ◌∷◌, length, MatchOption};
+ghost use Rattle.std.specs.Prelude.{◌≡◌, ◌≢◌, ◌+◌, ◌<◌, [], ◌∷◌, length, MatchOption};
 ghost use Rattle.fields.specs.Elements.{elem, elems, codes, ops};
 ghost use Rattle.skew.specs.Polynomials.{coefficients};
 ghost use Rattle.skew.specs.Annihilators.{Annihilated, Root, Grown};
@@ -12,7 +12,7 @@ use fields::Kind;
 
 // The c for which x - c takes v to zero at the parameter; nothing where v counts as 0.
 pub fn root<K: Kind>(kind: &K, parameter: u8, v: u8) -> Option<u8>
-    ensures { let m = K.meaning kind.now in MatchOption result (elem m v ≡ (ops m).zero) (λ c. Root m parameter v c) }
+    ensures { let m = K.meaning kind.now in MatchOption result (elem m v ≡ (ops m).zero) (λ c. (elem m v ≢ (ops m).zero) × Root m parameter v c) }
 {
     let inverse = kind.inverse(v)?;
     let twisted = kind.twist(v);
@@ -43,7 +43,8 @@ pub fn grow<K: Kind>(kind: &K, base: &Polynomial, point: Point) -> Option<Polyno
 }
 
 // A polynomial with leading coefficient 1 and degree at most the number of points that vanishes at each point, and so at
-// every combination with fixed coefficients of points that share a parameter. Nothing for more than 24 points.
+// every combination with fixed coefficients of points that share a parameter; and all that vanishes at the points is a multiple
+// of it. Nothing for more than 24 points.
 pub fn annihilator<K: Kind>(kind: &K, points: &[Point]) -> Option<Polynomial>
     ensures { let m = K.meaning kind.now in let ps = points.now in MatchOption result (24 < length ps) (λ f. Annihilated m ps (coefficients f)) }
 {

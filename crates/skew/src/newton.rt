@@ -2,9 +2,9 @@
 ghost use Rattle.std.specs.Prelude.{◌≡◌, ◌<◌, ◌≤◌, ◌≢◌, ◌⊎◌, length, MatchOption};
 ghost use Rattle.fields.specs.Elements.{elem, elems, ops};
 ghost use Rattle.skew.specs.Polynomials.{coefficients};
-ghost use Rattle.skew.specs.Roots.{Vanishes};
+ghost use Rattle.skew.specs.Roots.{at, Vanishes};
 ghost use Rattle.skew.specs.Annihilators.{place};
-ghost use Rattle.skew.specs.Interpolation.{Unlawful, Interpolated, Corrected, indicator};
+ghost use Rattle.skew.specs.Interpolation.{Stuck, Interpolated, Corrected, indicator};
 
 use super::annihilators::grow;
 use super::arithmetic::combine;
@@ -23,7 +23,7 @@ fn correct<K: Kind>(
     wanted: u8,
 ) -> Option<Polynomial>
     ensures { let m = K.meaning kind.now in let f = coefficients f.entry.now in let g = coefficients base.now in
-        MatchOption result (Vanishes (ops m) (elems m g) (place m point)) (λ h. Corrected m f g point wanted (coefficients h)) }
+        MatchOption result (Vanishes (ops m) (elems m g) (place m point) × (at (ops m) (elems m f) (place m point) ≢ elem m wanted)) (λ h. Corrected m f g point wanted (coefficients h)) }
 {
     let here = value(kind, f.as_slice(), point.parameter, point.locator);
     let there = value(kind, base.as_slice(), point.parameter, point.locator);
@@ -41,10 +41,10 @@ fn correct<K: Kind>(
 
 // The polynomial with these values at these points, with at most as many coefficients as there are points. For lawful
 // points there is always one, and no other. Nothing for more than 24 points, for more or fewer values than points, and
-// for some points that are not lawful.
+// where no polynomial at all has these values at these points, which are not lawful then.
 pub fn interpolate<K: Kind>(kind: &K, points: &[Point], values: &[u8]) -> Option<Polynomial>
     ensures { let m = K.meaning kind.now in let ps = points.now in let vs = values.now in
-        MatchOption result ((24 < length ps) ⊎ ((length vs ≢ length ps) ⊎ Unlawful m ps)) (λ f. Interpolated m ps vs (coefficients f)) }
+        MatchOption result ((24 < length ps) ⊎ ((length vs ≢ length ps) ⊎ Stuck m ps vs)) (λ f. Interpolated m ps vs (coefficients f)) }
 {
     if points.len() > MOST {
         return None;
@@ -63,10 +63,10 @@ pub fn interpolate<K: Kind>(kind: &K, points: &[Point], values: &[u8]) -> Option
 }
 
 // The polynomial that is 1 at point i and 0 at the others, with at most as many coefficients as there are points. Nothing for more
-// than 24 points, where there is no point i, and for some points that are not lawful.
+// than 24 points, where there is no point i, and where no polynomial at all is so, the points being not lawful then.
 pub fn unit<K: Kind>(kind: &K, points: &[Point], i: usize) -> Option<Polynomial>
     ensures { let m = K.meaning kind.now in let ps = points.now in
-        MatchOption result ((24 < length ps) ⊎ ((length ps ≤ i) ⊎ Unlawful m ps)) (λ f. (i < length ps) × Interpolated m ps (indicator (length ps) i) (coefficients f)) }
+        MatchOption result ((24 < length ps) ⊎ ((length ps ≤ i) ⊎ Stuck m ps (indicator (length ps) i))) (λ f. (i < length ps) × Interpolated m ps (indicator (length ps) i) (coefficients f)) }
 {
     if points.len() > MOST || i >= points.len() {
         return None;

@@ -1,16 +1,18 @@
 -- What decode answers for a word that is held with a tally that is not full, and what is handed out from then on.
 --
 --   Gives m c w gs t q    what was recovered, that it was, and that decode leads there
-use Rattle.std.proofs.Common.{◌≡◌, ℕ, ◌+◌, ◌≢◌, ◌↔◌, true, false, List, Result, Ok, Err, IsOk, inl, inr, refl, ap, ◌∙◌, subst, arith}
+use Rattle.std.proofs.Common.{◌≡◌, ℕ, ◌+◌, ◌≢◌, ◌↔◌, true, false, List, map, Result, Ok, Err, IsOk, inl, inr, refl, ap, ◌∙◌, subst, arith}
 use Rattle.std.proofs.lemmas.List.{length-map}
+use Rattle.fields.specs.Field.{plus}
 use Rattle.fields.specs.Meaning.{Meaning, Laws}
-use Rattle.fields.specs.Elements.{Elem, elem, elems}
+use Rattle.fields.specs.Elements.{Elem, elem, elems, ops}
 use Rattle.sheets.specs.declared.faults.Fault.{Fault}
 use Rattle.codes.specs.declared.shape.Code.{Code}
 use Rattle.codes.specs.Holdings.{held as numbers}
-use Rattle.hints.specs.Splittings.{Given}
+use Rattle.hints.specs.Splittings.{Given, row_count, column_count}
 use Rattle.recovery.specs.declared.outcome.Recovery.{Recovery}
 use Rattle.recovery.specs.Reach.{InReach}
+use Rattle.recovery.proofs.Unhinted.{difference_is}
 use Rattle.recovery.proofs.Uniqueness.{one_in_reach}
 use Rattle.station.specs.Calls.{
   Command,
@@ -97,6 +99,13 @@ module _ {m : Meaning} (l : Laws m) where
   pub alone : {c : Code} {w : List ℕ} {gs : List (Given (Elem m))} {t : Tallied} → Waits m c w gs t → (u v : List (Elem m)) → InReach m c gs (elems m w) u → InReach m c gs (elems m w) v → u ≡ v
   alone {c} {w} {gs} wait = let k = waits_kept l wait in one_in_reach l c gs (elems m w) k.lawful (length-map w (elem m) ∙ k.long) k.many (λ i p. (k.free i p).fit)
 
+  -- Without hints the full part of what solves is the difference.
+  whole : {c : Code} {w : List ℕ} {gs : List (Given (Elem m))} {t : Tallied} → Waits m c w gs t → (r : Recovery) → Solves m c gs w r → row_count gs + column_count gs ≡ 0
+      → elems m (numbers r.parts.full) ≡ plus (ops m) (elems m w) (map (ops m).neg (elems m (numbers r.codeword)))
+  whole {c} {w} {gs} wait r R bare =
+      let k = waits_kept l wait in
+      difference_is l c gs (elems m w) (elems m (numbers r.codeword)) r.parts k.many bare (length-map w (elem m) ∙ k.long) (length-map (numbers r.codeword) (elem m) ∙ R.sizes.0) R.sizes.1 R.splitting
+
   -- What decode gives.
   pub outcome : {c : Code} {w : List ℕ} {gs : List (Given (Elem m))} {t : Tallied} → Waits m c w gs t → (q : Position m) → Answered m (at m (held c w gs) t) decode (Ok done) q
       → (r : Recovery) × Outcome m c w gs q r
@@ -107,5 +116,6 @@ module _ {m : Meaning} (l : Laws m) where
           handed_out = handed_out c gs r q (ap (λ (p : Position m). p.standing) e);
           solves = k;
           only_one = λ v there. alone wait v (elems m (numbers r.codeword)) there k.reach;
+          hintless = whole wait r k;
         },
       )

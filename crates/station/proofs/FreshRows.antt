@@ -2,11 +2,14 @@
 use Rattle.std.proofs.Common.{◌≡◌, ℕ, ◌≢◌, List, [], ◌∷◌, length, sym, refl, ap, ◌∙◌, subst, arith}
 use Rattle.std.specs.List.{AllByRecursion}
 use Rattle.fields.specs.Field.{Ops, Laws, Zero, plus, scale}
+use Rattle.fields.specs.Inverses
 use Rattle.fields.specs.Basics
+use Rattle.fields.specs.Twists
 use Rattle.fields.specs.Basics.{ring}
 use Rattle.skew.proofs.Sums.{cons_path}
 use Rattle.ranks.specs.Reduction.{mix, AmongRows}
 use Rattle.ranks.proofs.Mixing
+use Rattle.ranks.proofs.RowSpans
 use Rattle.hints.specs.Splittings.{FreeRows}
 
 module _ {F : Type 0} {o : Ops F} (l : Laws o) where
@@ -17,7 +20,7 @@ module _ {F : Type 0} {o : Ops F} (l : Laws o) where
   -- An element by what it adds to zero with.
   turned : (c x v : F) → c ≢ zero → c * x + v ≡ zero → x ≡ neg (inv c) * v
   turned c x v n e =
-      sym (Basics.inv_mul_cancel l c x n) ∙ ap (λ w. inv c * w) (Basics.equal_of_sub l (c * x) (neg v) (ap (λ w. c * x + w) (Basics.neg_neg l v) ∙ e)) ∙ simp (ring, l)
+      sym (Inverses.inv_mul_cancel l c x n) ∙ ap (λ w. inv c * w) (Basics.equal_of_sub l (c * x) (neg v) (ap (λ w. c * x + w) (Basics.neg_neg l v) ∙ e)) ∙ simp (ring, l)
 
   -- The same place by place.
   row_turned : (c : F) (h v : List F) → length h ≡ length v → c ≢ zero → AllByRecursion (Zero o) (plus o (scale o c h) v) → h ≡ scale o (neg (inv c)) v
@@ -47,9 +50,9 @@ module _ {F : Type 0} {o : Ops F} (l : Laws o) where
       sum = subst (AllByRecursion (Zero o)) (Mixing.mix_cons l n h hs c cs e) z
 
       less : c ≡ zero → plus o (scale o c h) (mix o n hs cs) ≡ mix o n hs cs
-      less q = ap (λ w. plus o (scale o w h) (mix o n hs cs)) q ∙ Mixing.plus_none l n h (mix o n hs cs) same
+      less q = ap (λ w. plus o (scale o w h) (mix o n hs cs)) q ∙ RowSpans.plus_none l n h (mix o n hs cs) same
 
       spanned : c ≢ zero → AmongRows o n hs h
       spanned k =
           subst (AmongRows o n hs) (sym (row_turned c h (mix o n hs cs) same k sum))
-          (Mixing.among_scale l n hs (neg (inv c)) (mix o n hs cs) (Basics.fixed_neg l _ (Basics.fixed_inv l c k fix.0)) (cs, omega arith, fix.1, refl))
+          (RowSpans.among_scale l n hs (neg (inv c)) (mix o n hs cs) (Twists.fixed_neg l _ (Twists.fixed_inv l c k fix.0)) (cs, omega arith, fix.1, refl))

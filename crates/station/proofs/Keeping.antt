@@ -16,7 +16,7 @@ use Rattle.sheets.specs.declared.faults.Reason.{Reason}
 use Rattle.sheets.specs.declared.faults.Reason.TheVariants.{NoSymbol}
 use Rattle.ranks.specs.Ranks.{Spanned}
 use Rattle.ranks.specs.Reduction.{AmongRows}
-use Rattle.ranks.proofs.Spans
+use Rattle.ranks.proofs.Bases
 use Rattle.codes.specs.declared.shape.Code.{Code}
 use Rattle.codes.specs.Holdings.{held as numbers}
 use Rattle.codes.specs.Codes.{LawfulCode}
@@ -100,7 +100,7 @@ module _ {m : Meaning} (l : Laws m) where
     many = length-replicate (blocks_of c) (no_hints m);
     free = λ i k.
         subst (IndependentHints (ops m) (get_or (numbers c.lengths) i 0)) (sym (get_or-replicate (blocks_of c) i (no_hints m) (no_hints m) k))
-        (record { rows = Spans.ind_nil laws; fit = tt; columns = free_none laws (get_or (numbers c.lengths) i 0) });
+        (record { rows = Bases.ind_nil laws; fit = tt; columns = free_none laws (get_or (numbers c.lengths) i 0) });
   }
 
   module _ {c : Code} {w : List ℕ} {gs : List (Given (Elem m))} (k : Kept m c w gs) where
@@ -130,7 +130,7 @@ module _ {m : Meaning} (l : Laws m) where
       kept_row : (x : ℕ) → ¬ Spanned (ops m) (block_of m gs b).rows (elem m x) → Kept m c w (with_row m gs b x)
       kept_row x new =
           kept_set (b - 1) (record { rows = elem m x ∷ (block_of m gs b).rows; columns = (block_of m gs b).columns }) low
-          (record { rows = Spans.ind_more laws (elem m x) (block_of m gs b).rows block.rows new; fit = block.fit; columns = block.columns })
+          (record { rows = Bases.ind_more laws (elem m x) (block_of m gs b).rows block.rows new; fit = block.fit; columns = block.columns })
 
       -- One column hint more.
       kept_column : (h : List ℕ) → length h ≡ get_or (numbers c.lengths) (b - 1) 0 → AllNot (Unfixed m) h

@@ -29,11 +29,11 @@ unread c w law size (inr none) = none law
 
 -- What is read has k symbols.
 pub length_read : {m : Meaning} (c : Code) (w f : List ℕ) → Read m c w f → length f ≡ c.dimension
-length_read {m} c w f r = sym (length-map f (elem m)) ∙ (r.given c.most).0
+length_read {m} c w f r = sym (length-map f (elem m)) ∙ (r.given).0
 
 -- A message is one of its word however it is written down.
 pub message_of : {m : Meaning} (c : Code) (w f : List ℕ) {ys : List ℕ} → ys ≡ f → Read m c w f → Codes m ys × Message m c w (elems m ys)
-message_of {m} c w f e r = subst (λ ys. Codes m ys × Message m c w (elems m ys)) (sym e) (r.proper, r.given c.most)
+message_of {m} c w f e r = subst (λ ys. Codes m ys × Message m c w (elems m ys)) (sym e) (r.proper, r.given)
 
 -- The row that comes first is silent where a call is open.
 pub always : {b : Bool} → b ≡ true → Silent (where_so (b ≡ false) NotOpen 0)

@@ -21,6 +21,7 @@ module _ (m : Meaning) (c : Code) (gs : List (Given (Elem m))) where
     weight = k.weight;
     least = k.least;
     codes = k.codes;
+    sizes = k.sizes;
   }
 
   -- Each item has its length.

@@ -9,10 +9,11 @@
 --   Promises m             wherever calls lead to a word that is held with a tally that is not full:
 --     exact                decode gives a codeword exactly when one is in reach
 --     outcome              what it gives is handed out until the next clear: a codeword that alone is in reach, its message, and a splitting of
---                          its difference with least full errors
+--                          its difference with least full errors; without hints the full part is the difference
 --     spans_only           two stations with one code and word whose hints span the same agree
-use Rattle.std.specs.Prelude.{◌≡◌, ℕ, ◌<◌, ◌≢◌, ◌↔◌, List, Result, Ok, IsOk}
+use Rattle.std.specs.Prelude.{◌≡◌, ℕ, ◌+◌, ◌<◌, ◌≢◌, ◌↔◌, List, map, Result, Ok, IsOk}
 use Rattle.std.specs.List.{AllByRecursion}
+use Rattle.fields.specs.Field.{plus}
 use Rattle.fields.specs.Meaning.{Meaning}
 use Rattle.fields.specs.Elements.{Elem, elems, ops}
 use Rattle.sheets.specs.declared.faults.Fault.{Fault}
@@ -55,6 +56,8 @@ module _ (m : Meaning) where
     -- the codeword is in reach, with its message and a splitting with least full errors; and every other codeword is not in reach
     pub solves : Solves m c gs w r
     pub only_one : (v : List (Elem m)) → InReach m c gs (elems m w) v → v ≡ elems m (numbers r.codeword)
+    -- where there are no hints, the full part is the word less the codeword
+    pub hintless : row_count gs + column_count gs ≡ 0 → elems m (numbers r.parts.full) ≡ plus (ops m) (elems m w) (map (ops m).neg (elems m (numbers r.codeword)))
 
   abbrev pub Agree : Result Reply Fault → Position m → Result Reply Fault → Position m → Type 0
   Agree a p b q =

@@ -50,7 +50,9 @@ module _ (m : Meaning) where
     pub splitting : Splitting (ops m) gs (apart m c (elems m w) (elems m (numbers r.codeword))) (parts_of m (numbers c.lengths) r.parts)
     pub weight : Weighs (ops m) (full_part (parts_of m (numbers c.lengths) r.parts)) r.errors
     pub least : (ps : List (Parts (Elem m))) (n : ℕ) → Splitting (ops m) gs (apart m c (elems m w) (elems m (numbers r.codeword))) ps → Weighs (ops m) (full_part ps) n → r.errors ≤ n
+    -- everything is in codes, and as long as read hands it out
     pub codes : Codes m (coefficients r.message) × Codes m (numbers r.codeword) × Codes m (numbers r.parts.full) × Codes m (numbers r.parts.row) × Codes m (numbers r.parts.column)
+    pub sizes : (length (numbers r.codeword) ≡ size_of c) × (length (numbers r.parts.full) ≡ size_of c) × (length (numbers r.parts.row) ≡ size_of c) × (length (numbers r.parts.column) ≡ size_of c)
 
   abbrev pub Acts : Command → Standing m → Tallied → Reply → Position m → Type 0
   Acts (set_up x) bare t done q = (text : Text) × (c : Code) × Spells m.number x text × Made m text c × (q ≡ at m (ready c) t)

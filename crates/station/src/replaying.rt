@@ -1,5 +1,5 @@
 // A list of calls, put to a station of its own.
-ghost use Rattle.std.specs.Prelude.{IfOk};
+ghost use Rattle.std.specs.Prelude.{◌≡◌, IfOk};
 ghost use Rattle.station.specs.Promises.{Promises};
 ghost use Rattle.station.specs.Standings.{Replayed};
 
@@ -16,6 +16,7 @@ pub fn replay<K: Kind + Drop>(
     kind: K,
     calls: &[Call<'_>],
 ) -> Result<(Station<K>, Vec<Result<Answer, Fault>>), AllocError>
+    ensures kind { IfOk result (λ x. x.0.kind ≡ kind) }
     ensures history { IfOk result (λ x. Replayed (K.meaning kind) calls.now x.1.items x.0) }
     ensures promises { Promises (K.meaning kind) }
 {

@@ -1,5 +1,5 @@
 use Rattle.fields.specs.Elements.{elem}
-use Rattle.ranks.proofs.Ranking.{eight_answers}
+use Rattle.ranks.proofs.PaddedDigits.{eight_answers}
 use Rattle.hints.proofs.Rowwise.{reduced_is}
 use Rattle.hints.proofs.splitting.reduced.Goals as goal
 

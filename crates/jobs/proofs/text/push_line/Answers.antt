@@ -5,4 +5,4 @@ use Rattle.jobs.proofs.Cutting.{three}
 use Rattle.jobs.proofs.text.push_line.Goals as goal
 
 pub returns-clause-text : goal.returns-clause-text
-returns-clause-text c = three (held c.args.out.now) c.args.name.now (numbers c.args.symbols.now) (codes "\n") c.append.ensures c.push_symbols.ensures.text c.append-2.ensures
+returns-clause-text c = three (held c.args.out.now) c.args.name.now (numbers c.args.symbols.now) (codes "\n") c.append.ensures c.push_symbols.ensures.text c.push_end.ensures

@@ -2,7 +2,7 @@ use Rattle.std.proofs.Common.{◌≡◌, length, sym, ◌∙◌, subst, arith, r
 use Rattle.std.proofs.lemmas.List.{length_push}
 use Rattle.std.proofs.lemmas.Slice.Zip.{zip_turn, zip_end}
 use Rattle.fields.specs.Meaning.{clip}
-use Rattle.ranks.proofs.Reducing.{ClearedTo, clear_skips, clear_goes_on, clear_ends}
+use Rattle.ranks.proofs.ClearingLoop.{ClearedTo, clear_skips, clear_goes_on, clear_ends}
 use Rattle.ranks.proofs.rows.cleared.Goals as goal
 
 pub loop-slot-preserved : goal.loop-slot-preserved

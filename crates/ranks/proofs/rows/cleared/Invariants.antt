@@ -1,5 +1,5 @@
 use Rattle.std.proofs.Common.{length}
-use Rattle.ranks.proofs.Reducing.{ClearedTo}
+use Rattle.ranks.proofs.ClearingLoop.{ClearedTo}
 use Rattle.ranks.proofs.rows.cleared.Given as goal
 
 abbrev pub invariant-loop-slot : goal.invariant-loop-slot

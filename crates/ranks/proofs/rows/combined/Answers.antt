@@ -1,5 +1,5 @@
 use Rattle.std.proofs.Common.{rules}
-use Rattle.ranks.proofs.Reducing.{combined_is}
+use Rattle.ranks.proofs.CombinedRows.{combined_is}
 use Rattle.ranks.proofs.rows.combined.Goals as goal
 
 pub returns : goal.returns

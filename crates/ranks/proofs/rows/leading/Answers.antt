@@ -1,5 +1,5 @@
 use Rattle.std.proofs.Common.{rules}
-use Rattle.ranks.proofs.Reducing.{seeking_goes_on, seeking_finds, seeking_ends}
+use Rattle.ranks.proofs.SeekingLoop.{seeking_goes_on, seeking_finds, seeking_ends}
 use Rattle.ranks.proofs.rows.leading.Goals as goal
 
 pub loop-place-preserved : goal.loop-place-preserved

@@ -1,4 +1,4 @@
-use Rattle.ranks.proofs.Reducing.{Seeking}
+use Rattle.ranks.proofs.SeekingLoop.{Seeking}
 use Rattle.ranks.proofs.rows.leading.Given as goal
 
 abbrev pub invariant-loop-place : goal.invariant-loop-place

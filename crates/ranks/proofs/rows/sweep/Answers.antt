@@ -1,6 +1,6 @@
 use Rattle.std.proofs.Common.{◌≡◌, ◌+◌, ◌<◌, length, Some, sym, subst, arith, rules}
 use Rattle.ranks.specs.Reduction.{row}
-use Rattle.ranks.proofs.Reducing.{SlotSwept, Sweeping, sweeping_goes_on, row_swept, sweeping_ends}
+use Rattle.ranks.proofs.SweepingLoop.{SlotSwept, Sweeping, sweeping_goes_on, row_swept, sweeping_ends}
 use Rattle.ranks.proofs.rows.sweep.Goals as goal
 use Rattle.ranks.proofs.rows.sweep.Goals.{in-Some, in_default}
 

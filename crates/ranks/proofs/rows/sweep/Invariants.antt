@@ -1,5 +1,5 @@
 use Rattle.ranks.specs.Reduction.{row}
-use Rattle.ranks.proofs.Reducing.{Sweeping}
+use Rattle.ranks.proofs.SweepingLoop.{Sweeping}
 use Rattle.ranks.proofs.rows.sweep.Given as goal
 
 abbrev pub invariant-loop-slot : goal.invariant-loop-slot

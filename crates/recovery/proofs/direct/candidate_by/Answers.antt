@@ -4,7 +4,7 @@ use Rattle.skew.specs.Polynomials.{coefficients}
 use Rattle.codes.specs.Holdings.{held}
 use Rattle.hints.specs.Splittings.{row_count, column_count}
 use Rattle.recovery.specs.Candidates.{Candidate}
-use Rattle.recovery.proofs.Hintless.{all_none}
+use Rattle.recovery.proofs.BareBlocks.{all_none}
 use Rattle.recovery.proofs.direct.candidate_by.Goals as goal
 
 pub returns-else-hints-gt0 : goal.returns-else-hints-gt0

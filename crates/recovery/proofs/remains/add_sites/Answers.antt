@@ -54,4 +54,4 @@ returns g c =
     ∙ ap (λ w. take 24 (spots m (sites_in c.args.out.now) ++ w))
     (block_spots_here m f (elems m (coefficients c.args.killer.now)) c.args.points.now c.args.symbols.now (elems m us) (elems m c.cleared-left.result.cells) c.requires.same
     (c.cleared-locators.ensures k ∙ ap (clear (ops m) (marks_of f) (rows_of m f)) (c.locator_row-places.ensures m))
-    (c.cleared-left.ensures k ∙ ap (clear (ops m) (marks_of f) (rows_of m f)) (ap (elems m) (c.row_of-received.ensures (omega (arith, c.requires.few, c.requires.same))) ∙ padded_numbers m c.args.symbols.now)))
+    (c.cleared-left.ensures k ∙ ap (clear (ops m) (marks_of f) (rows_of m f)) (ap (elems m) (c.padded_row-received.ensures.few (omega (arith, c.requires.few, c.requires.same))) ∙ padded_numbers m c.args.symbols.now)))

@@ -1,5 +1,5 @@
 use Rattle.skew.specs.Polynomials.{coefficients}
-use Rattle.skew.proofs.Interpolating.{corrected_by, corrected_same, vanishes_there}
+use Rattle.skew.proofs.Correcting.{corrected_by, corrected_same, not_corrected}
 use Rattle.skew.proofs.newton.correct.Goals as goal
 
 pub returns-in-Some : goal.returns-in-Some
@@ -15,4 +15,6 @@ returns-in-None g c =
 
 pub returns-in-None-2 : goal.returns-in-None-2
 returns-in-None-2 g c =
-    vanishes_there (g.met.K.Kind.lawful c.args.kind.now) (coefficients c.args.base.now) c.args.point c.as_slice-2.ensures c.value-there.ensures.steps c.in-None.ensures
+    not_corrected (g.met.K.Kind.lawful c.args.kind.now) (coefficients c.args.f.now) (coefficients c.args.base.now) c.args.point c.args.wanted
+    c.as_slice.ensures c.value-here.ensures.steps c.as_slice-2.ensures c.value-there.ensures.steps
+    c.opposite-minus.ensures c.sum-gap.ensures c.in-None.ensures c.if-gap-eq0.false

@@ -1,5 +1,5 @@
 use Rattle.std.proofs.Common.{◌-◌, arith}
-use Rattle.skew.proofs.Dividing.{leading_starts, leading_goes_on, leading_found, leading_none}
+use Rattle.skew.proofs.Leading.{leading_starts, leading_goes_on, leading_found, leading_none}
 use Rattle.skew.proofs.quotients.leading.Goals as goal
 
 pub loop-i-init : goal.loop-i-init

@@ -1,5 +1,5 @@
 use Rattle.skew.specs.Polynomials.{coefficients}
-use Rattle.skew.proofs.Dividing.{Clear}
+use Rattle.skew.proofs.Leading.{Clear}
 use Rattle.skew.proofs.quotients.leading.Given as goal
 
 abbrev pub invariant-loop-i : goal.invariant-loop-i

@@ -1,4 +1,4 @@
-use Rattle.skew.proofs.Dividing.{untwist_starts, untwist_goes_on, untwist_ends}
+use Rattle.skew.proofs.Untwisting.{untwist_starts, untwist_goes_on, untwist_ends}
 use Rattle.skew.proofs.quotients.untwisted.Goals as goal
 
 pub loop-init : goal.loop-init

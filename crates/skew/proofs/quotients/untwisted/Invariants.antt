@@ -1,4 +1,4 @@
-use Rattle.skew.proofs.Dividing.{Untwisting}
+use Rattle.skew.proofs.Untwisting.{Untwisting}
 use Rattle.skew.proofs.quotients.untwisted.Given as goal
 
 abbrev pub invariant-loop : goal.invariant-loop

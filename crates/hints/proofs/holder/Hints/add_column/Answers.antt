@@ -2,7 +2,8 @@ use Rattle.std.proofs.Common.{refl, ◌∙◌, arith}
 use Rattle.std.proofs.lemmas.Result.{err_from_is_err_and}
 use Rattle.codes.specs.Holdings.{held}
 use Rattle.hints.specs.Taking.{Left}
-use Rattle.hints.proofs.Judging.{column_size, column_depends, column_fresh, column_taken, places_in}
+use Rattle.hints.proofs.Judging.{column_size, column_depends, column_fresh, column_taken}
+use Rattle.hints.proofs.CodePlaces.{places_in}
 use Rattle.hints.proofs.holder.Hints.add_column.Goals as goal
 
 pub returns-in_err-entry-clause-judged : goal.returns-in_err-entry-clause-judged
@@ -11,13 +12,13 @@ returns-in_err-entry-clause-judged g c = λ gs h.
     let p = err_from_is_err_and c.from_residual-in_err-entry.result c.from_residual-in_err-entry.ensures.1 in
     let place = c.in_ok-at.ensures in
     let long = c.if-coefficients-get.false ∙ c.get.ensures in
-    let row = c.row_of-row in
+    let row = c.padded_row-row in
     rw (p.1, p.2, c.in_err-entry.ensures.refused) (
       (
         place.0,
-        column_size l place.0 place.1 h c.args.code.now.each c.args.coefficients.now long c.in_default.ensures row.result.cells row.ensures,
+        column_size l place.0 place.1 h c.args.code.now.each c.args.coefficients.now long c.in_default.ensures row.result.cells row.ensures.few,
         c.in_default.ensures,
-        column_depends l place.0 place.1 h c.args.code.now.each c.args.coefficients.now long c.in_default.ensures row.result.cells row.ensures c.in_err-entry.ensures.extends,
+        column_depends l place.0 place.1 h c.args.code.now.each c.args.coefficients.now long c.in_default.ensures row.result.cells row.ensures.few c.in_err-entry.ensures.extends,
       ),
       tt,
     )
@@ -27,12 +28,12 @@ returns-then-spent-clause-judged g c = λ gs h.
     let l = g.met.K.Kind.lawful c.args.kind.now in
     let place = c.in_ok-at.ensures in
     let long = c.if-coefficients-get.false ∙ c.get.ensures in
-    let row = c.row_of-row in (
+    let row = c.padded_row-row in (
       (
         place.0,
-        column_size l place.0 place.1 h c.args.code.now.each c.args.coefficients.now long c.in_default.ensures row.result.cells row.ensures,
+        column_size l place.0 place.1 h c.args.code.now.each c.args.coefficients.now long c.in_default.ensures row.result.cells row.ensures.few,
         c.in_default.ensures,
-        column_fresh l place.0 place.1 h c.args.code.now.each c.args.coefficients.now long c.in_default.ensures row.result.cells row.ensures c.in_ok-entry.ensures.extends,
+        column_fresh l place.0 place.1 h c.args.code.now.each c.args.coefficients.now long c.in_default.ensures row.result.cells row.ensures.few c.in_ok-entry.ensures.extends,
         (λ left. omega (arith, left, c.if-spent.ensures, h.rows, h.columns, places_in c.args.code.now)),
       ),
       tt,
@@ -43,15 +44,15 @@ returns-clause-judged g c = λ gs h.
     let l = g.met.K.Kind.lawful c.args.kind.now in
     let place = c.in_ok-at.ensures in
     let long = c.if-coefficients-get.false ∙ c.get.ensures in
-    let row = c.row_of-row in
+    let row = c.padded_row-row in
     let left : Left (g.K.Kind.meaning c.args.kind.now) (held c.args.code.now.lengths) c.args.code.now.dimension gs = omega (arith, c.if-spent.ensures, h.rows, h.columns, places_in c.args.code.now) in (
       (
         place.0,
-        column_size l place.0 place.1 h c.args.code.now.each c.args.coefficients.now long c.in_default.ensures row.result.cells row.ensures,
+        column_size l place.0 place.1 h c.args.code.now.each c.args.coefficients.now long c.in_default.ensures row.result.cells row.ensures.few,
         c.in_default.ensures,
-        column_fresh l place.0 place.1 h c.args.code.now.each c.args.coefficients.now long c.in_default.ensures row.result.cells row.ensures c.in_ok-entry.ensures.extends,
+        column_fresh l place.0 place.1 h c.args.code.now.each c.args.coefficients.now long c.in_default.ensures row.result.cells row.ensures.few c.in_ok-entry.ensures.extends,
         left,
       ),
-      column_taken l place.0 place.1 h c.args.code.now.each c.args.coefficients.now long c.in_default.ensures row.result.cells row.ensures c.in_ok-entry.ensures.extends _ c.args.code.now.blocks
+      column_taken l place.0 place.1 h c.args.code.now.each c.args.coefficients.now long c.in_default.ensures row.result.cells row.ensures.few c.in_ok-entry.ensures.extends _ c.args.code.now.blocks
           c.args.self.now.room left refl refl refl,
     )

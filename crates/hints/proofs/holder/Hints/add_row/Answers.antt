@@ -2,7 +2,8 @@ use Rattle.std.proofs.Common.{refl, arith}
 use Rattle.std.proofs.lemmas.Result.{err_from_is_err_and}
 use Rattle.codes.specs.Holdings.{held}
 use Rattle.hints.specs.Taking.{Left}
-use Rattle.hints.proofs.Judging.{row_depends, row_fresh, row_taken, places_in}
+use Rattle.hints.proofs.Judging.{row_depends, row_fresh, row_taken}
+use Rattle.hints.proofs.CodePlaces.{places_in}
 use Rattle.hints.proofs.holder.Hints.add_row.Goals as goal
 
 pub returns-in_err-entry-clause-judged : goal.returns-in_err-entry-clause-judged

@@ -1,5 +1,5 @@
 use Rattle.std.proofs.Common.{refl}
-use Rattle.hints.proofs.Judging.{none_held}
+use Rattle.hints.proofs.EmptyHints.{none_held}
 use Rattle.hints.proofs.holder.Hints.none.Goals as goal
 
 pub returns : goal.returns

@@ -1,5 +1,5 @@
 use Rattle.std.proofs.Common.{refl}
-use Rattle.ranks.proofs.Reducing.{inserted_none, inserted_one}
+use Rattle.ranks.proofs.InsertedRows.{inserted_none, inserted_one}
 use Rattle.ranks.proofs.rows.Form.insert.Goals as goal
 
 pub returns-in_default : goal.returns-in_default

@@ -1,7 +1,7 @@
 use Rattle.std.proofs.Common.{◌≡◌, length, refl, ap, ◌∙◌, subst, inl, inr, arith}
 use Rattle.std.proofs.lemmas.Result.{err_from_is_err_and}
 use Rattle.skew.proofs.Filling.{short}
-use Rattle.hints.proofs.Judging.{places_in}
+use Rattle.hints.proofs.CodePlaces.{places_in}
 use Rattle.codes.specs.Holdings.{held as numbers}
 use Rattle.station.specs.Tables.{Silent}
 use Rattle.station.specs.Positions.{unhinted, at, held}

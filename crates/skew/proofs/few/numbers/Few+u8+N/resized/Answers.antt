@@ -1,5 +1,5 @@
 use Rattle.std.proofs.Common.{rules}
-use Rattle.skew.proofs.Dividing.{resize_starts, resize_goes_on, resize_ends}
+use Rattle.skew.proofs.Resizing.{resize_starts, resize_goes_on, resize_ends}
 use Rattle.skew.proofs.few.numbers.Few+u8+N.resized.Goals as goal
 
 pub loop-i-init : goal.loop-i-init

@@ -1,5 +1,5 @@
 use Rattle.skew.specs.Few.{held}
-use Rattle.skew.proofs.Dividing.{Resizing}
+use Rattle.skew.proofs.Resizing.{Resizing}
 use Rattle.skew.proofs.few.numbers.Few+u8+N.resized.Given as goal
 
 abbrev pub invariant-loop-i : goal.invariant-loop-i

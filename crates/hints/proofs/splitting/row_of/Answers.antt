@@ -1,6 +1,0 @@
-use Rattle.std.proofs.Common.{rules}
-use Rattle.hints.proofs.Rowwise.{padded_cells}
-use Rattle.hints.proofs.splitting.row_of.Goals as goal
-
-pub returns : goal.returns
-returns c = λ few. padded_cells c.args.symbols.now c.from_fn.result.cells few c.from_fn.ensures.0 (λ i lt. let h = c.from_fn.ensures.1 i lt in search rules)
