@@ -1,5 +1,5 @@
 -- The tables of kind 2, each with its rule, tested over the whole table; and what its calls answer.
-use Rattle.std.proofs.Common.{◌≡◌, ℕ, ◌+◌, ◌-◌, ◌%◌, ◌<◌, cond, eqb, ltb, ◌⊎◌, [], ◌∷◌, ◌++◌, get_or, Some, None, sym, refl, ap, ◌∙◌, ap₂, inl, inr, lit<, eqb→eq}
+use Rattle.std.proofs.Common.{◌≡◌, ℕ, ◌+◌, ◌-◌, ◌*◌, ◌%◌, ◌<◌, cond, eqb, ltb, ◌⊎◌, [], ◌∷◌, ◌++◌, get_or, Some, None, sym, refl, ap, ◌∙◌, ap₂, inl, inr, lit<, eqb→eq}
 use Rattle.std.specs.Int.Bits.{bit_xor}
 use Rattle.std.proofs.lemmas.Bool.{cond-true, lt-ltb}
 use Rattle.fields.specs.Meaning.{clip, inverted, digit_row}
@@ -26,6 +26,16 @@ zero_product a b ha hb (inr e) = sym (ap (product modulus16 a) e ∙ ring16.prod
 pub inverse_rule : (a : ℕ) → a < 16 → 0 < a → get_or powers16 ((15 - get_or logs16 a 0) % 15) 0 ≡ power modulus16 14 a
 unfolding power product
 inverse_rule a h p = eqb→eq _ _ (from0 a _ p (at (λ a. unless0 a (eqb (get_or powers16 ((15 - get_or logs16 a 0) % 15) 0) (power modulus16 14 a))) 16 tt a h))
+
+-- The square of the square has four times the exponent.
+pub fourth_rule : (a : ℕ) → a < 16 → 0 < a → get_or powers16 ((4 * get_or logs16 a 0) % 15) 0 ≡ product modulus16 (product modulus16 a a) (product modulus16 a a)
+unfolding product
+fourth_rule a h p = eqb→eq _ _ (from0 a _ p (at (λ a. unless0 a (eqb (get_or powers16 ((4 * get_or logs16 a 0) % 15) 0) (product modulus16 (product modulus16 a a) (product modulus16 a a)))) 16 tt a h))
+
+-- That of 0 is 0.
+pub fourth_zero : (a : ℕ) → a ≡ 0 → 0 ≡ product modulus16 (product modulus16 a a) (product modulus16 a a)
+unfolding product
+fourth_zero a e = sym (ap (λ x. product modulus16 (product modulus16 x x) (product modulus16 x x)) e)
 
 -- The square of the square is the fourth power.
 pub fourth_power : (a : ℕ) → a < 16 → product modulus16 (product modulus16 a a) (product modulus16 a a) ≡ power modulus16 4 a
@@ -57,4 +67,4 @@ pub digits_answer : (a x : ℕ) → x ≡ clip gf16 a → x < 16 → get_or DIGI
 digits_answer a x e h = digits_rule x h ∙ ap (λ y. gf16.digits y ++ 0 ∷ 0 ∷ 0 ∷ 0 ∷ 0 ∷ 0 ∷ []) (cond-true (ltb x 16) x 0 (lt-ltb x 16 h) ∙ e)
 
 -- What the check takes for the calls of src/tables.rt.
-pub ruleset answers = (product_rule, zero_product, sum_answers, opposite_answers, inverse_answers, digits_answer, fourth_answers)
+pub ruleset answers = (product_rule, zero_product, fourth_rule, fourth_zero, sum_answers, opposite_answers, inverse_answers, digits_answer, fourth_answers)

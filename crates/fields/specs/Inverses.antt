@@ -1,8 +1,8 @@
 -- Inverses of the elements of a field: cancellation, no zero divisors, inverses of products. The ruleset is for `simp`:
 --
 --   quotients               an element meets its inverse (where it is known to differ from zero)
-use Rattle.std.specs.Prelude.{◌≡◌, ◌≢◌}
-use Rattle.std.proofs.Common.{sym, ◌∙◌, ap}
+use Rattle.std.specs.Prelude.{◌≡◌, ◌≢◌, ◌⊎◌}
+use Rattle.std.proofs.Common.{sym, ◌∙◌, ap, inl, inr}
 use Rattle.fields.specs.Field.{Ops, Laws}
 use Rattle.fields.specs.Basics
 
@@ -64,6 +64,10 @@ module _ {F : Type 0} {o : Ops F} (l : Laws o) where
   -- A product of elements other than zero.
   pub mul_nonzero : (x y : F) → x ≢ zero → y ≢ zero → x * y ≢ zero
   mul_nonzero x y n m e = m (right_zero x y n e)
+
+  -- A factor of a product zero is zero.
+  pub some_zero : (x y : F) → x * y ≡ zero → (x ≡ zero) ⊎ (y ≡ zero)
+  some_zero x y e = elim (l.same x zero) [ yes p ↦ inl p | no n ↦ inr (right_zero x y n e) ]
 
   -- A first factor of one is not zero.
   pub unit_nonzero : (x y : F) → x * y ≡ one → x ≢ zero

@@ -2,40 +2,39 @@
 // generator. What it prints is held to what an unrelated computation printed (reference/skew.py).
 #![tactic(auto)]
 
-ghost use Rattle.std.specs.Prelude.{IfOk, ◌≤◌, vec_len};
+ghost use Rattle.std.specs.Prelude.{◌≡◌, ◌*◌, ◌≤◌, length};
+ghost use Rattle.skew.specs.Few.{held};
 
 use drills::{Plan, Random, Visit, each_kind};
 use fields::Kind;
 use shown::{found, line};
 use skew::{
-    MOST, Pair, Point, Polynomial, Site, annihilator, interpolate, left_quotient, pairs, product,
-    value,
+    Few, MOST, Pair, Point, Polynomial, Site, annihilator, interpolate, left_quotient, pairs,
+    product, value,
 };
-use std::alloc::{AllocError, Global};
 use std::io;
 
 #[cfg(test)]
 mod tests;
 
-// As many blocks, each with the basis for its locators and the next power of the generator for its parameter; no more points than
-// a code can have. The plain draft of code_checks counts powers alike, but keeps lengths, parameters and locators in lists of their own.
-fn course<K: Kind>(heap: Global, kind: &K, plan: Plan) -> Result<Vec<Point>, AllocError>
-    ensures { IfOk result (λ v. vec_len v ≤ 24) }
+// As many blocks, each with the basis for its locators and the next power of the generator for its parameter. The plain draft of
+// code_checks counts powers alike, but keeps lengths, parameters and locators in lists of their own.
+fn course<K: Kind>(kind: &K, plan: Plan) -> Few<Point, MOST>
+    requires { (K.meaning kind.now).width * plan.blocks ≤ 24 }
+    ensures { length (held result) ≡ (K.meaning kind.now).width * plan.blocks }
 {
-    let mut points = Vec::new(heap);
+    let mut points = Few::empty();
     let mut parameter = 1;
     for _i in 0..plan.blocks {
-        for j in 1..=kind.width() {
-            if points.len() < MOST {
-                points.push(Point {
-                    parameter,
-                    locator: kind.basis(j),
-                })?;
-            }
+        for j in 0..kind.width() {
+            points.push(Point {
+                parameter,
+                locator: kind.basis(j + 1),
+            });
         }
         parameter = kind.product(parameter, plan.generator);
     }
-    Ok(points)
+    points
 }
 
 // At how many points the value of the product is the value of f at the value of g.
@@ -65,10 +64,10 @@ fn round<K: Kind>(
     let n = points.len();
     let f: Polynomial = random.drawn(kind, n / 2 + 1);
     let g: Polynomial = random.drawn(kind, n / 2);
-    let values: Vec<u8> = points
-        .iter()
-        .map(|p| value(kind, f.as_slice(), p.parameter, p.locator))
-        .collect(rt.alloc())?;
+    let mut values = Polynomial::empty();
+    for p in points {
+        values.push(value(kind, f.as_slice(), p.parameter, p.locator));
+    }
     line(rt, "values", values.as_slice())?;
     if let Some(fg) = product(kind, &f, &g) {
         line(rt, "product", fg.as_slice())?;
@@ -98,14 +97,14 @@ fn paired<K: Kind>(
     points: &[Point],
 ) -> io::Result<()> {
     let n = points.len();
-    let sites: Vec<Site> = points
-        .iter()
-        .map(|p| Site {
+    let mut sites: Few<Site, MOST> = Few::empty();
+    for p in points {
+        sites.push(Site {
             parameter: p.parameter,
             locator: p.locator,
             second: random.symbol(kind),
-        })
-        .collect(rt.alloc())?;
+        });
+    }
     let Some(s) = pairs(kind, n / 2, sites.as_slice()) else {
         return println!(rt; "pairs none");
     };
@@ -118,8 +117,10 @@ fn paired<K: Kind>(
     )
 }
 
-fn report<K: Kind>(rt: &HostRuntime, kind: &K, plan: Plan) -> io::Result<()> {
-    let course = course(rt.alloc(), kind, plan)?;
+fn report<K: Kind>(rt: &HostRuntime, kind: &K, plan: Plan) -> io::Result<()>
+    requires { (K.meaning kind.now).width * plan.blocks ≤ 24 }
+{
+    let course = course(kind, plan);
     let points = course.as_slice();
     println!(rt; "kind {} points {}", kind.number(), points.len())?;
     let mut random = Random::seeded(kind.number());

@@ -69,7 +69,8 @@ impl Work for Run<'_, '_> {
 }
 
 // The setting is the length of a sheet, the sheet, the number of row hints, each a block and an element, and the number of column
-// hints, each a block, a length and as many coefficients. The first byte of the sheet names the kind. Each word of as many symbols as the
+// hints, each a block, a length and as many coefficients. The first byte of the sheet names the kind, a shipped one, its mirror or the brought
+// one. Each word of as many symbols as the
 // code has is recovered in turn, and its codeword stands at the same place of `out`, or zeros; words without room there are left
 // out. Answers how many were recovered.
 #[unsafe(no_mangle)]
@@ -81,6 +82,10 @@ pub extern "C" fn lrs_time_recover(setting: &[u8], words: &[u8], out: &mut [u8])
     let [number, ..] = sheet else {
         return 0;
     };
+    // with_kind also knows the mirror of the brought kind, which is none of those that are timed
+    if *number == 72 {
+        return 0;
+    }
     let work = Run {
         sheet,
         hints,
