@@ -69,10 +69,9 @@ impl Work for Run<'_, '_> {
 }
 
 // The setting is the length of a sheet, the sheet, the number of row hints, each a block and an element, and the number of column
-// hints, each a block, a length and as many coefficients. The first byte of the sheet names the kind, a shipped one, its mirror or the brought
-// one. Each word of as many symbols as the
-// code has is recovered in turn, and its codeword stands at the same place of `out`, or zeros; words without room there are left
-// out. Answers how many were recovered.
+// hints, each a block, a length and as many coefficients. The first byte of the sheet names the kind: a shipped one, its mirror, or
+// the brought one. Each word of as many symbols as the code has is recovered in turn, and its codeword stands at the same place of
+// `out`, or zeros; words without room there are left out. Answers how many were recovered.
 #[unsafe(no_mangle)]
 pub extern "C" fn lrs_time_recover(setting: &[u8], words: &[u8], out: &mut [u8]) -> usize {
     let [size, bytes @ ..] = setting else {
