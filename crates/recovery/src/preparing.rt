@@ -3,9 +3,9 @@ ghost use Rattle.std.specs.Prelude.{MatchOption};
 ghost use Rattle.codes.specs.Codes.{LawfulCode};
 ghost use Rattle.recovery.specs.Preparation.{Prepares};
 
-use super::powers::powers_at;
+use super::powers::powers_of;
 use super::prepared::Prepared;
-use codes::{Code, Symbols, encode};
+use codes::{Code, encode};
 use fields::Kind;
 use skew::{Polynomial, annihilator, unit};
 
@@ -23,14 +23,10 @@ pub fn prepare<K: Kind>(kind: &K, code: &Code) -> Option<Prepared>
         let f = unit(kind, first, j)?;
         units[j] = f;
     }
-    let mut powers = [Symbols::empty(); 24];
-    for (i, p) in points.iter().enumerate() {
-        powers[i] = powers_at(kind, *p);
-    }
     Some(Prepared {
         top,
         values,
         units,
-        powers,
+        powers: powers_of(kind, points),
     })
 }

@@ -1,4 +1,4 @@
-use Rattle.std.proofs.Common.{◌≡◌, ◌-◌, ◌<◌, ◌≤◌, map, length, take, sym, ap, ◌∙◌, subst, arith, rules}
+use Rattle.std.proofs.Common.{◌≡◌, ◌-◌, ◌<◌, ◌≤◌, map, length, take, sym, ap, ◌∙◌, subst, arith}
 use Rattle.std.proofs.lemmas.List.{length-map, length-take}
 use Rattle.std.proofs.lemmas.List.{map-set}
 use Rattle.fields.specs.Elements.{elems, codes}
@@ -29,18 +29,16 @@ loop-j-preserved g c =
     (unit_is (g.met.K.Kind.lawful c.args.kind.now) (take (c.args.code.now.dimension - 0) c.as_slice-points.result.now) c.loop-j.j c.in_ok-f.ensures.0 c.in_ok-f.ensures.1) c.loop-j.invariant
 
 pub invariant_of-result : goal.invariant_of-result
-invariant_of-result g c = record { whole = sym (length-map c.loop-j.units coefficients) ∙ c.loop-j.invariant.size; points = c.loop-i.invariant.size }
+invariant_of-result g c = record { whole = sym (length-map c.loop-j.units coefficients) ∙ c.loop-j.invariant.size; points = c.powers_of.ensures.size }
 
 pub returns : goal.returns
 returns g c = λ law.
     let m = g.K.Kind.meaning c.args.kind.now in
     let first = first_cut c.args.code.now.dimension c.as_slice-points.ensures in
     let all_of : c.loop-j.j ≡ c.args.code.now.dimension = omega (arith, c.loop-j-test.false, c.loop-j.auto.j-end) in
-    let all_points : c.loop-i.i ≡ length c.as_slice-points.result.now = search rules in
     prepares (g.met.K.Kind.lawful c.args.kind.now) c.args.code.now law _
     (subst (λ ps. Annihilated m ps (coefficients c.in_ok-top.top)) first c.in_ok-top.ensures)
     (c.encode-values.ensures ∙ ap (λ f. codes (word_of m c.args.code.now (elems m f))) c.as_slice.ensures)
     (subst (λ ps. Collected (UnitAt m ps) c.args.code.now.dimension (map coefficients c.loop-j.units)) first
     (subst (λ n. Collected (UnitAt m (take (c.args.code.now.dimension - 0) c.as_slice-points.result.now)) n (map coefficients c.loop-j.units)) all_of c.loop-j.invariant))
-    (subst (λ ps. Collected (Stepped m ps) (length ps) c.loop-i.powers) c.as_slice-points.ensures
-    (subst (λ n. Collected (Stepped m c.as_slice-points.result.now) n c.loop-i.powers) all_points c.loop-i.invariant))
+    (subst (λ ps. Collected (Stepped m ps) (length ps) c.powers_of.result) c.as_slice-points.ensures (record { size = c.powers_of.ensures.size; each = c.powers_of.ensures.each }))
